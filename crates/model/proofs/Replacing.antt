@@ -9,12 +9,18 @@ use Rattle.std.specs.declared.result.Result.{Result}
 use Rattle.std.specs.declared.result.Result.the-variants.{Ok, Err}
 use Rattle.std.specs.Options.{isSome}
 use Rattle.model.specs.declared.refusal.Refusal.{Refusal}
+use Rattle.model.specs.Board.{orElse}
 use Rattle.model.specs.Calls.{answer, Replaced, Replaced-once}
 
 -- a check that answered `Ok` found no fault
 pub unrefused : (f : Option Refusal) → Ok tt ≡ answer f → f ≡ None
 unrefused None e = refl
 unrefused (Some r) e = let z : _≡_ {A = ℕ} 0 1 = cc in absurd (omega arith)
+
+-- the first check that refuses answers for those after it
+pub refused-first : (f g : Option Refusal) (e : Refusal) → Err e ≡ answer f → Err e ≡ answer (orElse f g)
+refused-first None g e h = let z : _≡_ {A = ℕ} 0 1 = cc in absurd (omega arith)
+refused-first (Some r) g e h = h
 
 module _ {M S : Type 0} (view : M → S) where
   -- a check that refused leaves the value as it was

@@ -32,7 +32,7 @@ pub enum Refusal {
     Setting(u32),
     // there is no line or partition of this number
     NoSuch(u32),
-    // no instant meets the bound of this partition
+    // no window up to the whole clock holds the demand on this partition
     NoBound(u32),
 }
 

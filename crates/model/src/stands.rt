@@ -1,17 +1,20 @@
 // Theorems upon the definitions, each on the contract of a function, so that none can stay unproved.
+ghost use mathlib.Core.Path.{_≡_};
 ghost use Rattle.model.specs.Board.{Ranges-checked};
 ghost use Rattle.model.specs.Calls.{Replaced-once};
 
 // The checks of a board refuse exactly what is out of range.
 pub fn ranges_are_checked() -> u8
-    ensures { λ _. ⌜ Ranges-checked ⌝ }
+    ensures value { λ r. ⌜ r ≡ 0 ⌝ }
+    ensures stands { λ _. ⌜ Ranges-checked ⌝ }
 {
     0
 }
 
 // A filling or setting call has one outcome.
 pub fn replacing_has_one_outcome<M, S>() -> u8
-    ensures { λ _. ⌜ ((view : M → S) → Replaced-once view) ⌝ }
+    ensures value { λ r. ⌜ r ≡ 0 ⌝ }
+    ensures stands { λ _. ⌜ ((view : M → S) → Replaced-once view) ⌝ }
 {
     0
 }

@@ -1,0 +1,2 @@
+-- The lemmas that the proofs stand on.
+mod Smallest
