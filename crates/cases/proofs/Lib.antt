@@ -1,2 +1,3 @@
 -- The lemmas that the proofs stand on.
+mod RunsWorked
 mod Smallest

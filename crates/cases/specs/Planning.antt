@@ -4,7 +4,7 @@ use mathlib.Core.Bool.{Bool, true, false, cond}
 use mathlib.Core.List.{List, [], _∷_}
 use Prim.Native.Nat.{ℕ}
 use Rattle.std.specs.declared.option.Option.the-variants.{None}
-use Rattle.model.specs.Board.{Layout, layout, fault, cycle, own, fullCost}
+use Rattle.model.specs.Board.{fault, cycle, own, fullCost}
 use Rattle.model.specs.Demand.{Bound}
 use Rattle.monitor.specs.Pair.{joinedCeiling}
 use Rattle.distance.specs.Distance.{distanceNew, distanceCeiling}
@@ -14,13 +14,7 @@ use Rattle.curve.specs.Single.{single}
 use Rattle.curve.specs.Sporadic.{spaced, sporadicMost}
 use Rattle.curve.specs.Jitter.{periodic, jitterMost}
 use Rattle.curve.specs.Pair.{pairMost}
-
--- board K: two partitions, a slot of 10 ticks and one of 6, a line of each partition
-abbrev pub boardK : Layout
-boardK =
-    layout 2 (record { owner = 0; ticks = 10 } ∷ record { owner = 1; ticks = 6 } ∷ [])
-    (record { owner = 1; top = 2; handler = 3 } ∷ record { owner = 0; top = 1; handler = 4 } ∷ [])
-    (record { check = 1; reschedule = 1; switch = 2 })
+use Rattle.cases.specs.ExampleBoard.{boardK}
 
 -- its monitors: a distance of 100 for line 0, one of 200 for line 1
 abbrev pub ceilingK : ℕ → ℕ → ℕ

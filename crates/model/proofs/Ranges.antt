@@ -4,7 +4,6 @@ use mathlib.Core.Bool.{Bool, true, false}
 use mathlib.Core.List.{List, [], _∷_}
 use Prim.Native.Nat.{ℕ, zero, suc, _+_, _≤_, _<_}
 use native.Mathlib.Omega.{arith}
-use lib.Dec.{eqb, leb, ltb}
 use lib.ListN.{length, getD}
 use Rattle.std.specs.declared.option.Option.{Option}
 use Rattle.std.specs.declared.option.Option.the-variants.{Some, None}
@@ -14,8 +13,7 @@ use Rattle.model.specs.declared.board.Slot.{Slot}
 use Rattle.model.specs.declared.board.Line.{Line}
 use Rattle.model.specs.declared.board.Overheads.{Overheads}
 use Rattle.model.specs.declared.refusal.Refusal.{Refusal}
-use Rattle.model.specs.declared.refusal.Refusal.the-variants.{Count, SlotRange, LineRange, OverheadRange}
-use Rattle.model.specs.Limits.{inRange}
+use Rattle.model.specs.declared.refusal.Refusal.the-variants.{SlotRange, LineRange}
 use Rattle.model.specs.Board.{Layout, orElse, unless, firstFault, countFault, slotFault, lineFault, overheadFault, fault, slotFits, lineFits, SlotInRange, LineInRange, InRange, noSlot, noLine, slotOf, lineAt}
 
 -- neither of two checks refuses

@@ -1,5 +1,5 @@
 -- Sums, smallest values and tests over the numbers below n, and division rounded up.
-use mathlib.Core.Bool.{Bool, true, false, _&&_}
+use mathlib.Core.Bool.{Bool, true, _&&_}
 use Prim.Native.Nat.{ℕ, zero, suc, _+_, _-_, _/_, min}
 
 -- f 0 + f 1 + … of the first n

@@ -1,8 +1,6 @@
 -- The demand on a partition in a window, and its response-time bound: the least window that holds its own demand.
-use mathlib.Core.Path.{_≡_}
-use mathlib.Core.Bool.{Bool, cond}
+use mathlib.Core.Bool.{cond}
 use Prim.Native.Nat.{ℕ, _+_, _-_, _*_, _≤_, _<_, min}
-use lib.Dec.{eqb}
 use lib.ListN.{length}
 use Rattle.model.specs.Counting.{sumTo, up}
 use Rattle.model.specs.Limits.{end}

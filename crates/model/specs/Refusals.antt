@@ -1,7 +1,7 @@
 -- The number and the place of every refusal: all that a caller is told of why.
 use Prim.Native.Nat.{ℕ}
 use Rattle.model.specs.declared.refusal.Refusal.{Refusal}
-use Rattle.model.specs.declared.refusal.Refusal.the-variants.{Count, SlotRange, LineRange, OverheadRange, Setting, NoSuch, NoBound}
+use Rattle.model.specs.declared.refusal.Refusal.the-variants.{Count, SlotRange, LineRange, OverheadRange, Setting, NoSuch, Masked, QueueFull, PastEnd, NoBound}
 use Rattle.model.specs.declared.refusal.Counted.{Counted}
 use Rattle.model.specs.declared.refusal.Counted.the-variants.{Partitions, Slots, Lines}
 use Rattle.model.specs.declared.refusal.Overhead.{Overhead}
@@ -14,6 +14,9 @@ numberOf (LineRange k) = 3
 numberOf (OverheadRange o) = 4
 numberOf (Setting i) = 5
 numberOf (NoSuch n) = 6
+numberOf (Masked k) = 7
+numberOf (QueueFull p) = 8
+numberOf (PastEnd n) = 9
 numberOf (NoBound p) = 10
 
 abbrev pub countPlace : Counted → ℕ
@@ -33,4 +36,7 @@ placeOf (LineRange k) = k
 placeOf (OverheadRange o) = overheadPlace o
 placeOf (Setting i) = i
 placeOf (NoSuch n) = n
+placeOf (Masked k) = k
+placeOf (QueueFull p) = p
+placeOf (PastEnd n) = n
 placeOf (NoBound p) = p

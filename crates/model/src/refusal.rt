@@ -32,6 +32,12 @@ pub enum Refusal {
     Setting(u32),
     // there is no line or partition of this number
     NoSuch(u32),
+    // this line is closed by the mask
+    Masked(u32),
+    // this partition's queue is full
+    QueueFull(u32),
+    // the clock's end is so many ticks away, fewer than asked for
+    PastEnd(u32),
     // no window up to the whole clock holds the demand on this partition
     NoBound(u32),
 }
@@ -48,11 +54,14 @@ impl Refusal {
             Refusal::OverheadRange(_) => 4,
             Refusal::Setting(_) => 5,
             Refusal::NoSuch(_) => 6,
+            Refusal::Masked(_) => 7,
+            Refusal::QueueFull(_) => 8,
+            Refusal::PastEnd(_) => 9,
             Refusal::NoBound(_) => 10,
         }
     }
 
-    // The place that it names: which count, slot, line, overhead, number of a setting or partition.
+    // The place that it names: which count, slot, line, overhead, number of a setting, partition or how many ticks.
     pub fn place(&self) -> u32
         ensures { λ r. ⌜ r ≡ placeOf (now (self .entry)) ⌝ }
     {
@@ -67,6 +76,9 @@ impl Refusal {
             Refusal::LineRange(place) => *place,
             Refusal::Setting(place) => *place,
             Refusal::NoSuch(place) => *place,
+            Refusal::Masked(place) => *place,
+            Refusal::QueueFull(place) => *place,
+            Refusal::PastEnd(place) => *place,
             Refusal::NoBound(place) => *place,
         }
     }

@@ -15,6 +15,8 @@ use model::Overheads;
 use model::Refusal;
 use model::Slot;
 use monitor::Pair;
+use monitor::PairMonitor;
+use scheduler::Core;
 
 #[derive(Drop)]
 pub struct Plan {
@@ -26,9 +28,18 @@ pub struct Plan {
 pub fn plan_k() -> Result<Plan, Refusal> {
     Ok(Plan {
         board: board_k()?,
-        monitor: Pair::new(distance(100)?, distance(200)?),
+        monitor: monitors_k()?,
         curve: CurvePair::new(sporadic(100)?, sporadic(200)?),
     })
+}
+
+// A new core of board K.
+pub fn core_k() -> Result<Core<Pair<Distance, Distance>>, Refusal> {
+    Ok(Core::new(board_k()?, monitors_k()?))
+}
+
+fn monitors_k() -> Result<Pair<Distance, Distance>, Refusal> {
+    Ok(Pair::new(distance(100)?, distance(200)?))
 }
 
 pub fn board_k() -> Result<Board, Refusal> {

@@ -1,5 +1,6 @@
-// Prints the plan of an example board, and how a board that is out of range is refused.
+// Prints the plan of an example board, how a board that is out of range is refused, and a run of twenty ticks.
 mod example;
+mod running;
 mod trouble;
 
 use crate::trouble::ToldDisplay;
@@ -16,6 +17,7 @@ use example::board_k;
 use example::plan_k;
 use model::Slot;
 use monitor::PairMonitor;
+use running::show_run;
 use trouble::Told;
 use trouble::Trouble;
 
@@ -31,7 +33,8 @@ fn run(rt: &impl Print) -> Result<(), Trouble> {
     let plan = plan_k()?;
     show_partitions(rt, &plan)?;
     show_lines(rt, &plan.board)?;
-    show_refusal(rt)
+    show_refusal(rt)?;
+    show_run(rt)
 }
 
 fn show_partitions(rt: &impl Print, plan: &Plan) -> Result<(), Trouble> {

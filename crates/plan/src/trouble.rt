@@ -25,6 +25,9 @@ fn meaning(refusal: Refusal) -> &'static str {
         Refusal::OverheadRange(_) => "an overhead is out of range",
         Refusal::Setting(_) => "a number of a monitor's or a curve's setting is out of range",
         Refusal::NoSuch(_) => "there is no such line or partition",
+        Refusal::Masked(_) => "the line is closed by the mask",
+        Refusal::QueueFull(_) => "the partition's queue is full",
+        Refusal::PastEnd(_) => "the ticks pass the clock's end",
         Refusal::NoBound(_) => "no window up to the clock's end meets the partition's bound",
     }
 }

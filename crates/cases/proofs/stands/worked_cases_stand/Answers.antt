@@ -1,13 +1,15 @@
--- Each case by computation; a bound is the least by trying every smaller window.
+-- Each case of planning by computation; a bound is the least by trying every smaller window.
 use mathlib.Core.Path.{refl}
 use Rattle.model.specs.Counting.{sumTo, least, allTo}
-use Rattle.cases.specs.Planning.{boardK, ceilingK, mostK, PlanningCases}
+use Rattle.cases.specs.ExampleBoard.{boardK}
+use Rattle.cases.specs.Planning.{ceilingK, mostK, PlanningCases}
+use Rattle.cases.proofs.RunsWorked.{runs-worked}
 use Rattle.cases.proofs.Smallest.{bound-by-test}
-use Rattle.cases.proofs.stands.planning_cases_stand.Needs as need
+use Rattle.cases.proofs.stands.worked_cases_stand.Needs as need
 
-cases : PlanningCases
+planning : PlanningCases
 unfolding sumTo least allTo
-cases =
+planning =
     record {
       in-range = refl;
       cycle-of-16 = refl;
@@ -27,4 +29,4 @@ cases =
     }
 
 pub returns : need.returns
-returns c = record { value = refl; stands = cases }
+returns c = record { value = refl; stands = record { planning = planning; runs = runs-worked } }

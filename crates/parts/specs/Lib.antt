@@ -1,0 +1,5 @@
+pub mod Service
+pub mod Pending
+pub mod Waiting
+pub mod Phases
+pub mod Grants
