@@ -5,8 +5,8 @@ usage: python3 tools/respell.py          at the top of the repository: rewrites 
        python3 tools/respell.py --table  prints the table of names instead, old and new
 
 Words go into snake case (ownerAt to owner_at, core-after to core_after); a type with a dash goes into camel case
-(Ranges-checked to RangesChecked). What the check makes of the sources keeps its spelling: names behind `c.`, `l.` and
-`goal.`, the goals themselves, and every name of src/. It stops where two names would fall together.
+(Ranges-checked to RangesChecked). What the check makes of the sources keeps its spelling: names behind an answer's `c.`, an
+invariant's `l.` and `goal.`, the goals themselves, and every name of src/. It stops where two names would fall together.
 """
 
 import glob
@@ -69,7 +69,7 @@ def table(names):
     return rows, together
 
 
-def turned(text, rows, rust):
+def turned(text, rows, rust, made):
     """The text with every own name in its new spelling; comments keep words with dashes, Rust keeps comments and strings."""
     mark = "//" if rust else "--"
     out = []
@@ -81,7 +81,7 @@ def turned(text, rows, rust):
 
         def one(m):
             before = code[: m.start()]
-            if re.search(r"(?:^|[^\w'-])(?:c|l|goal|given)\.$", before):
+            if re.search(r"(?:^|[^\w'-])(?:" + made + r")\.$", before):
                 return m.group(0)
             return rows.get(m.group(0), m.group(0))
 
@@ -108,7 +108,8 @@ def main(argv):
     for p in texts("specs/**/*.antt", "proofs/**/*.antt", "src/**/*.rt"):
         with open(p, encoding="utf-8") as f:
             text = f.read()
-        new = turned(text, rows, p.endswith(".rt"))
+        made = "c|goal" if p.endswith("Answers.antt") else "l|goal|given" if p.endswith("Invariants.antt") else "goal"
+        new = turned(text, rows, p.endswith(".rt"), made)
         if new != text:
             with open(p, "w", encoding="utf-8") as f:
                 f.write(new)

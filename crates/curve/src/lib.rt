@@ -1,4 +1,6 @@
 // Arrival curves, the most events that each line can raise in a window, and the response-time bounds that follow.
+#![tactic(auto)]
+
 mod bounds;
 mod curve;
 mod jitter;

@@ -1,4 +1,6 @@
 // The monitor that keeps a distance between permits.
+#![tactic(auto)]
+
 mod after;
 mod distance;
 

@@ -1,4 +1,6 @@
 // Board K, the example board: two partitions, two slots, two lines, with a monitor and an arrival curve for each line.
+#![tactic(auto)]
+
 ghost use Rattle.std.specs.Prelude.{◌≡◌};
 ghost use Rattle.board.specs.Held.{held};
 ghost use Rattle.curve.specs.Sporadic.{sporadic_of, spaced};

@@ -80,7 +80,7 @@ module _ (b : Layout) (p u w : ℕ) where
 
   pub losing_event : (h : History) (s : State) (k tag : ℕ) (permit : Bool) → k < length b.lines → (permit ≡ true → s.granted ≡ None)
       → Losing h s → Losing (note_event h k tag permit) (raised_state b s k tag permit)
-  losing_event h s k tag false known closed l = record { before = l.before; rest_few = l.rest-few; inside = l.inside; always = l.always }
+  losing_event h s k tag false known closed l = record { before = l.before; rest_few = l.rest_few; inside = l.inside; always = l.always }
   losing_event h s k tag true known closed l = by (foreign b p k) refl
     where
       was : foreign_rest s.granted ≡ 0
@@ -117,9 +117,9 @@ module _ (b : Layout) (p u w : ℕ) where
       let same = ap (λ v. more v (taken h)) is in
       record {
         before = λ early. omega (arith, l.before);
-        rest_few = omega (arith, l.rest-few);
+        rest_few = omega (arith, l.rest_few);
         inside =
-            λ from to. ⊎_elim (λ (early : h.clock < u). omega (arith, l.before, l.rest-few)) (λ (late : u ≤ h.clock). omega (arith, l.inside))
+            λ from to. ⊎_elim (λ (early : h.clock < u). omega (arith, l.before, l.rest_few)) (λ (late : u ≤ h.clock). omega (arith, l.inside))
             (cases_lt h.clock u);
         always = omega (arith, l.always);
       }
@@ -129,7 +129,7 @@ module _ (b : Layout) (p u w : ℕ) where
       let was = l.inside fact.1 fact.2 in
       record {
         before = λ early. absurd (omega arith);
-        rest_few = omega (arith, l.rest-few);
+        rest_few = omega (arith, l.rest_few);
         inside = λ from to. omega arith;
         always = omega arith;
       }

@@ -28,16 +28,16 @@ module _ {S : Type 0} where
       → Runs x n spans events q y ys fs → Runs x n spans events r z zs gs → (q ≡ r) × (y ≡ z) × (ys ≡ zs) × (fs ≡ gs)
   runs_once x n spans events q r y z ys zs fs gs a c =
       let ticks : q.ticks ≡ r.ticks = omega (arith, a.most r.ticks c.few c.fits, c.most q.ticks a.few a.fits) in
-      let written : q.spans ≡ r.spans = a.spans_written.counted ∙ (ap (λ t. length (tape x.board x.state t)) ticks ∙ sym c.spans-written.counted) in
-      let ended : q.finished ≡ r.finished = a.events_written.counted ∙ (ap (λ t. length (ended_in x.board x.state t)) ticks ∙ sym c.events-written.counted) in (
+      let written : q.spans ≡ r.spans = a.spans_written.counted ∙ (ap (λ t. length (tape x.board x.state t)) ticks ∙ sym c.spans_written.counted) in
+      let ended : q.finished ≡ r.finished = a.events_written.counted ∙ (ap (λ t. length (ended_in x.board x.state t)) ticks ∙ sym c.events_written.counted) in (
         λ i. record { ticks = ticks i; spans = written i; finished = ended i },
-        a.core_after ∙ (ap (λ t. core x.board x.monitor (after x.board x.state t)) ticks ∙ sym c.core-after),
+        a.core_after ∙ (ap (λ t. core x.board x.monitor (after x.board x.state t)) ticks ∙ sym c.core_after),
         whole q.spans (tape x.board x.state q.ticks) spans ys a.spans_written
             ∙ (ap (λ t. tape x.board x.state t ++ drop (length (tape x.board x.state t)) spans) ticks
-            ∙ sym (whole r.spans (tape x.board x.state r.ticks) spans zs c.spans-written)),
+            ∙ sym (whole r.spans (tape x.board x.state r.ticks) spans zs c.spans_written)),
         whole q.finished (ended_in x.board x.state q.ticks) events fs a.events_written
             ∙ (ap (λ t. ended_in x.board x.state t ++ drop (length (ended_in x.board x.state t)) events) ticks
-            ∙ sym (whole r.finished (ended_in x.board x.state r.ticks) events gs c.events-written)),
+            ∙ sym (whole r.finished (ended_in x.board x.state r.ticks) events gs c.events_written)),
       )
 
   advanced_once : AdvancedOnce S

@@ -1,4 +1,6 @@
 // The plain data of the receiver's scheduling core, and in specs/ the definitions that every contract cites.
+#![tactic(auto)]
+
 mod board;
 mod refusal;
 mod run;

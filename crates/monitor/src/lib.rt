@@ -1,4 +1,6 @@
 // What every monitor answers, and monitors made of two others.
+#![tactic(auto)]
+
 mod joint;
 mod monitor;
 mod pair;

@@ -1,4 +1,6 @@
 // What the scheduler is made of: queues of events, one for each partition, and a grant's step machine.
+#![tactic(auto)]
+
 mod grant;
 mod phase;
 mod queue;

@@ -1,4 +1,6 @@
 // Prints the plan of an example board, how a board that is out of range is refused, and a run of twenty ticks.
+#![tactic(auto)]
+
 mod example;
 mod running;
 mod trouble;

@@ -1,4 +1,6 @@
 // Plays a sheet from standard input on board K, and prints the replies.
+#![tactic(auto)]
+
 mod printer;
 mod trouble;
 

@@ -1,4 +1,6 @@
 // Playing a sheet on a core: each line is read, carried out and answered, and what is done is a run of the core.
+#![tactic(auto)]
+
 mod desk;
 mod player;
 mod session;

@@ -1,4 +1,6 @@
 // What a sheet's player answers, line by line, and the text of each answer.
+#![tactic(auto)]
+
 mod lines;
 mod output;
 mod page;

@@ -1,4 +1,6 @@
 // The scheduler: a core with a board and a monitor, on which events are raised and ticks are run.
+#![tactic(auto)]
+
 mod buffers;
 mod kernel;
 mod mask;

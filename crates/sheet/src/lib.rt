@@ -1,4 +1,6 @@
 // Sheets: calls written as text, one to a line, and how they are read.
+#![tactic(auto)]
+
 mod command;
 mod cursor;
 mod digits;

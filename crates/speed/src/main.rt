@@ -1,4 +1,6 @@
 // Runs the standard board close to the clock's end, first idle, then loaded, and prints how much was run.
+#![tactic(auto)]
+
 mod trouble;
 
 use board::Board;

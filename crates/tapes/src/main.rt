@@ -1,4 +1,6 @@
 // Plays a fixed list of runs on several boards and prints their tapes.
+#![tactic(auto)]
+
 mod boards;
 mod monitors;
 mod numbers;

@@ -1,4 +1,6 @@
 // The monitor that keeps a distance to each of its latest permits.
+#![tactic(auto)]
+
 mod trail;
 
 pub use trail::Trail;

@@ -1,4 +1,6 @@
 // Windows of ticks, and the ranges of what can be set.
+#![tactic(auto)]
+
 ghost use Rattle.std.specs.Prelude.{◌≡◌, ◌≤◌, min};
 ghost use Rattle.model.specs.Counting.{up};
 ghost use Rattle.model.specs.Limits.{in_range, instants};
