@@ -19,8 +19,8 @@ mine p ss i h e = let more = next p ss i h in grind (arith, nat_tests)
 other : (p : ℕ) (ss : List Slot) (i : ℕ) → i < length ss → ((get_or ss i no_slot).owner ≡ p → ⊥) → owned_in p (drop i ss) ≡ owned_in p (drop (i + 1) ss)
 other p ss i h e = let more = next p ss i h in grind (arith, nat_tests)
 
-pub overflow-add-sum : goal.overflow-add-sum
-overflow-add-sum c =
+pub overflow_add-sum : goal.overflow_add-sum
+overflow_add-sum c =
     let owner : (get_or c.args.slots.now c.loop-slot.slot-index no_slot).owner ≡ c.args.partition = cc in
     let more = mine c.args.partition c.args.slots.now c.loop-slot.slot-index c.loop-slot-test.true owner in
     record { fits = omega arith }

@@ -4,8 +4,8 @@ use Rattle.std.proofs.lemmas.List.{at_drop_more, at_drop_all}
 use Rattle.model.specs.Board.{cycle_of, no_slot}
 use Rattle.board.proofs.table.sum_of.Goals as goal
 
-pub overflow-add-sum : goal.overflow-add-sum
-overflow-add-sum c =
+pub overflow_add-sum : goal.overflow_add-sum
+overflow_add-sum c =
     let next = at_drop_more cycle_of c.args.slots.now c.loop-slot.slot-index no_slot c.loop-slot-test.true in
     record { fits = omega arith }
 

@@ -7,8 +7,8 @@ use Rattle.parts.specs.Pending.{pending, held_by}
 use Rattle.parts.proofs.Places.{held_by_few}
 use Rattle.parts.proofs.queues.sum_of.Goals as goal
 
-pub overflow-add-sum : goal.overflow-add-sum
-overflow-add-sum c =
+pub overflow_add-sum : goal.overflow_add-sum
+overflow_add-sum c =
     let next = sum_by-drop_more (λ q. length (pending q)) c.args.all.now c.loop-queue.queue-index c.queue-item.result c.loop-queue-test.true in
     let item = ap (λ (q : Queue). length (pending q)) c.queue-item.is in
     let few = held_by_few c.args.all.now c.requires in

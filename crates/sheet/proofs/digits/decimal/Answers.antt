@@ -4,12 +4,12 @@ use Rattle.std.proofs.lemmas.Bool.Decides.{nat_tests}
 use Rattle.sheet.proofs.Numbers.{digits_more, no_digit, too_large, all_read}
 use Rattle.sheet.proofs.digits.decimal.Goals as goal
 
-pub returns-then-not-is-ascii-digit : goal.returns-then-not-is-ascii-digit
-returns-then-not-is-ascii-digit c =
+pub returns-then-not-is_ascii_digit : goal.returns-then-not-is_ascii_digit
+returns-then-not-is_ascii_digit c =
     record {
       value =
           no_digit c.args.limit c.args.bytes.now c.loop-byte.byte-index c.loop-byte.value (omega arith)
-          (sym c.if-not-is-ascii-digit.ensures.value) c.loop-byte.invariant.0;
+          (sym c.if-not-is_ascii_digit.ensures.value) c.loop-byte.invariant.0;
       within = tt;
     }
 
@@ -25,7 +25,7 @@ returns-then-more-from c =
 pub loop-byte-preserved : goal.loop-byte-preserved
 loop-byte-preserved c = (
   digits_more c.args.bytes.now c.loop-byte.byte-index c.loop-byte.value (c.from.result * 10 + c.from-in-loop-byte.result)
-      (omega arith) (sym c.if-not-is-ascii-digit.ensures.value) (omega arith) c.loop-byte.invariant.0,
+      (omega arith) (sym c.if-not-is_ascii_digit.ensures.value) (omega arith) c.loop-byte.invariant.0,
   omega arith,
 )
 

@@ -6,8 +6,8 @@ use Rattle.model.proofs.Ranges.{in_range_lem}
 use Rattle.board.specs.Held.{held}
 use Rattle.board.proofs.table.Board.full_cost.Goals as goal
 
-pub overflow-add-result : goal.overflow-add-result
-overflow-add-result c =
+pub overflow_add-result : goal.overflow_add-result
+overflow_add-result c =
     let b = held c.args.self.now in
     let ranges = in_range_lem b c.args.self.now.in_range in
     let long = ap length c.lines-lines.ensures in

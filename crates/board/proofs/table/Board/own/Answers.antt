@@ -6,8 +6,8 @@ use Rattle.model.proofs.Cycle.{cycle_few, own_few}
 use Rattle.board.specs.Held.{held}
 use Rattle.board.proofs.table.Board.own.Goals as goal
 
-pub owned-in-requires : goal.owned-in-requires
-owned-in-requires c =
+pub owned_in-requires : goal.owned_in-requires
+owned_in-requires c =
     let b = held c.args.self.now in
     let few = cycle_few b (in_range_lem b c.args.self.now.in_range) in
     let part = own_few b c.args.partition in

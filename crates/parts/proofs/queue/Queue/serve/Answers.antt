@@ -7,8 +7,8 @@ use Rattle.parts.proofs.queue.Queue.serve.Goals.{else-room-via-then-room+else-ti
 pub returns-then-ticks-end : goal.returns-then-ticks-end
 returns-then-ticks-end c =
     let q = c.args.self.now in
-    leaves c.args.ticks c.args.room q.events q.len (omega arith) (omega arith) c.from-end.result c.copy-within.new.self
-    c.if-room.true (omega arith) c.if-ticks-end.true c.copy-within.ensures.after
+    leaves c.args.ticks c.args.room q.events q.len (omega arith) (omega arith) c.from-end.result c.copy_within.new.self
+    c.if-room.true (omega arith) c.if-ticks-end.true c.copy_within.ensures.after
 
 pub returns : goal.returns
 returns c =

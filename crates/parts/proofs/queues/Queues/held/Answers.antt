@@ -4,4 +4,4 @@ use Rattle.parts.proofs.Places.{held_few}
 use Rattle.parts.proofs.queues.Queues.held.Goals as goal
 
 pub returns : goal.returns
-returns c = record { sum = c.sum-of.ensures; bound = omega (arith, c.sum-of.ensures, held_few c.args.self.now (omega arith)) }
+returns c = record { sum = c.sum_of.ensures; bound = omega (arith, c.sum_of.ensures, held_few c.args.self.now (omega arith)) }

@@ -6,8 +6,8 @@ use Rattle.std.proofs.lemmas.Bool.Decides.{nat_tests}
 use Rattle.parts.proofs.Places.{held_few, held_by_few, before, same, joined, longer}
 use Rattle.parts.proofs.queues.Queues.push.Goals as goal
 
-pub returns-then-not-has-queue : goal.returns-then-not-has-queue
-returns-then-not-has-queue c =
+pub returns-then-not-has_queue : goal.returns-then-not-has_queue
+returns-then-not-has_queue c =
     record { answer = search rules; after = λ p. refl; held = omega arith; full = λ no. refl; bound = held_few c.args.self.now (omega arith) }
 
 pub returns : goal.returns
@@ -18,7 +18,7 @@ returns c =
     let d = c.index-self-from.result in
     let q = c.push.new.self in
     let is = c.from.ensures in
-    let below : p < length all = ltb-true _ _ (sym c.if-not-has-queue.ensures) in
+    let below : p < length all = ltb-true _ _ (sym c.if-not-has_queue.ensures) in
     let known : i < length all = omega arith in
     let did = c.push.ensures in
     let was = ap length (before all i p is known d) in

@@ -8,12 +8,12 @@ use Rattle.parts.proofs.Serving.{no_longer, nothing}
 use Rattle.parts.proofs.Places.{before, after, replaced, summed, past, unchanged}
 use Rattle.parts.proofs.queues.Queues.serve.Goals as goal
 
-pub returns-then-not-has-queue : goal.returns-then-not-has-queue
-returns-then-not-has-queue c =
+pub returns-then-not-has_queue : goal.returns-then-not-has_queue
+returns-then-not-has_queue c =
     let qs = c.args.self.now in
     let p = c.args.partition in
     record {
-      outcome = nothing c.args.ticks c.args.room (queue_of qs p) (past qs.all p (ltb-false _ _ (sym c.if-not-has-queue.ensures)));
+      outcome = nothing c.args.ticks c.args.room (queue_of qs p) (past qs.all p (ltb-false _ _ (sym c.if-not-has_queue.ensures)));
       others = unchanged (queue_of qs) p;
       held = omega arith;
     }
@@ -26,7 +26,7 @@ returns c =
     let d = c.index-self-from.result in
     let q = c.serve.new.self in
     let is = c.from.ensures in
-    let below : p < length all = ltb-true _ _ (sym c.if-not-has-queue.ensures) in
+    let below : p < length all = ltb-true _ _ (sym c.if-not-has_queue.ensures) in
     let known : i < length all = omega arith in
     let did : record { ticks = c.serve.result.0; ended = c.serve.result.1; rest = pending q } ≡ serve c.args.ticks c.args.room (pending (get_or all i d)) = c.serve.ensures in
     let was = before all i p is known d in

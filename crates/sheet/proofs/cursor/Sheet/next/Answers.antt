@@ -5,8 +5,8 @@ use Rattle.sheet.specs.Firsts.{first_of, later_of}
 use Rattle.sheet.proofs.Parting.{lines_next, lines_none, fewer_left}
 use Rattle.sheet.proofs.cursor.Sheet.next.Goals as goal
 
-pub returns-then-is-empty : goal.returns-then-is-empty
-returns-then-is-empty c =
+pub returns-then-is_empty : goal.returns-then-is_empty
+returns-then-is_empty c =
     let s = c.args.self.now in
     let none = lines_none s.place s.rest.now (grind (arith, nat_tests)) in
     record { line = sym (ap first_of none); left = none ∙ sym (ap later_of none); number = refl; shorter = refl }
@@ -16,10 +16,10 @@ returns c =
     let s = c.args.self.now in
     let some : 0 < length s.rest.now = grind (arith, nat_tests) in
     let is =
-    lines_next s.place s.rest.now c.count-before-length.result c.min-used.result some (omega arith) (omega arith) (omega arith)
+    lines_next s.place s.rest.now c.count_before-length.result c.min-used.result some (omega arith) (omega arith) (omega arith)
     in
     record {
-      line = ap Some c.read-line-read.ensures ∙ sym (ap first_of is);
+      line = ap Some c.read_line-read.ensures ∙ sym (ap first_of is);
       left = sym (ap later_of is);
       number = refl;
       shorter = fewer_left s.rest.now c.min-used.result some (omega arith);

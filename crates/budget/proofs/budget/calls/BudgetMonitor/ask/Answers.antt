@@ -10,7 +10,7 @@ pub returns : goal.returns
 returns c =
     let m = c.args.self.now in
     let s = budget_state m in
-    let after : ◌≡◌ {A = BudgetState} (record { permits = m.permits; period = m.period; latest = c.args.at; used = c.used-at.result + 1 }) (budget_after s c.args.at) = cc in
+    let after : ◌≡◌ {A = BudgetState} (record { permits = m.permits; period = m.period; latest = c.args.at; used = c.used_at.result + 1 }) (budget_after s c.args.at) = cc in
     record {
       asked =
           one_asked budget_rule budget_most budget_rest budget_state m c.args.line c.args.at _ (budget_after s c.args.at) after

@@ -13,7 +13,7 @@ returns c =
     let s = trail_state m in
     let after =
     ap (λ (ps : List (Option ℕ)). let t : TrailState = record { distances = s.distances; permits = ps } in t)
-    (in_front m.permits c.rotate-right.new.self (Some c.args.at) m.kept c.rotate-right.ensures.after) in
+    (in_front m.permits c.rotate_right.new.self (Some c.args.at) m.kept c.rotate_right.ensures.after) in
     record {
       asked =
           one_asked trail_rule trail_most trail_rest trail_state m c.args.line c.args.at _ (trail_after s c.args.at) after

@@ -11,14 +11,14 @@ pub loop-i-init : goal.loop-i-init
 unfolding all_to
 loop-i-init c = refl
 
-pub returns-then-not-is-after : goal.returns-then-not-is-after
-returns-then-not-is-after c =
-    ready_no c.args.self.now c.args.line c.args.at c.loop-i.i c.loop-i-test.true c.if-not-is-after.ensures
+pub returns-then-not-is_after : goal.returns-then-not-is_after
+returns-then-not-is_after c =
+    ready_no c.args.self.now c.args.line c.args.at c.loop-i.i c.loop-i-test.true c.if-not-is_after.ensures
 
 pub loop-i-preserved : goal.loop-i-preserved
 loop-i-preserved c =
     all_more c.loop-i.i (far (trail_state c.args.self.now) c.args.at) c.loop-i.invariant
-    (far_passed c.args.self.now c.args.at c.loop-i.i c.loop-i-test.true c.if-not-is-after.ensures)
+    (far_passed c.args.self.now c.args.at c.loop-i.i c.loop-i-test.true c.if-not-is_after.ensures)
 
 pub returns : goal.returns
 returns c =
