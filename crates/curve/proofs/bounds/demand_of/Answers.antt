@@ -10,8 +10,8 @@ pub loop-line-init : goal.loop-line-init
 unfolding sum_to
 loop-line-init g c = (refl, omega arith)
 
-pub share-of-total-requires : goal.share-of-total-requires
-share-of-total-requires g c =
+pub share_of-total-requires : goal.share_of-total-requires
+share_of-total-requires g c =
     let few = (g.met.C.Curve.lawful c.args.curve.now).bounded c.loop-line.line c.args.window in
     let lines = ap length c.lines-line-end.ensures in
     omega arith
@@ -22,11 +22,11 @@ loop-line-preserved g c =
     let more = sum_more c.loop-line.line shares in
     grind arith
 
-pub overflow-mul-result : goal.overflow-mul-result
-overflow-mul-result g c = let few = away_few (min c.args.window instants) c.cycle.result c.from.result (omega arith) in grind arith
+pub overflow_mul-result : goal.overflow_mul-result
+overflow_mul-result g c = let few = away_few (min c.args.window instants) c.cycle.result c.from.result (omega arith) in grind arith
 
-pub overflow-add-result : goal.overflow-add-result
-overflow-add-result g c =
+pub overflow_add-result : goal.overflow_add-result
+overflow_add-result g c =
     let few = away_few (min c.args.window instants) c.cycle.result c.from.result (omega arith) in
     let lines = ap length c.lines-line-end.ensures in
     grind arith

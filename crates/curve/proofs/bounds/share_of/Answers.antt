@@ -11,14 +11,14 @@ known c = costs c.args.board.now c.args.line c.requires.known c.lines.ensures c.
 pub times-requires : goal.times-requires
 times-requires c = let few = known (goal.at.times-requires c).After-overheads-overheads in omega arith
 
-pub overflow-add-from : goal.overflow-add-from
-overflow-add-from c = let few = known (goal.at.overflow-add-from c).After-overheads-overheads in omega arith
+pub overflow_add-from : goal.overflow_add-from
+overflow_add-from c = let few = known (goal.at.overflow_add-from c).After-overheads-overheads in omega arith
 
 pub times-handled-requires : goal.times-handled-requires
 times-handled-requires c = let few = known (goal.at.times-handled-requires c).After-overheads-overheads in omega arith
 
-pub overflow-add-from-2 : goal.overflow-add-from-2
-overflow-add-from-2 c = let few = known (goal.at.overflow-add-from-2 c).After-overheads-overheads in omega arith
+pub overflow_add-from-2 : goal.overflow_add-from-2
+overflow_add-from-2 c = let few = known (goal.at.overflow_add-from-2 c).After-overheads-overheads in omega arith
 
 pub times-requires-2 : goal.times-requires-2
 times-requires-2 c = let few = known (goal.at.times-requires-2 c).After-overheads-overheads in omega arith

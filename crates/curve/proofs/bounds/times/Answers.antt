@@ -4,8 +4,8 @@ use Rattle.std.proofs.lemmas.Nat.{mul-le}
 use Rattle.model.specs.Limits.{largest}
 use Rattle.curve.proofs.bounds.times.Goals as goal
 
-pub overflow-mul-result : goal.overflow-mul-result
-overflow-mul-result c = let few = mul-le c.args.count c.from.result largest 13000 c.requires.counted (omega arith) in omega arith
+pub overflow_mul-result : goal.overflow_mul-result
+overflow_mul-result c = let few = mul-le c.args.count c.from.result largest 13000 c.requires.counted (omega arith) in omega arith
 
 pub returns : goal.returns
 returns c =

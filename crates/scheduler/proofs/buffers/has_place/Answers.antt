@@ -21,6 +21,6 @@ returns-then-written-spans c inside =
 
 pub returns : goal.returns
 returns c inside =
-    c.lengthens-last.ensures inside
+    c.lengthens_last.ensures inside
     ∙ full _ _ _ c.args.written (lengthens_last (take c.args.written c.args.spans.now) c.args.next)
     (length_grown (take c.args.written c.args.spans.now) c.args.next) (length-take-le c.args.written c.args.spans.now inside) (omega arith)

@@ -9,13 +9,13 @@ use Rattle.scheduler.proofs.BoardRanges.{board_ranges}
 use Rattle.scheduler.proofs.SlotWalks.{stays_in, stays_ever}
 use Rattle.scheduler.proofs.slots.slot_at.Goals as goal
 
-pub nonzero-rem-at : goal.nonzero-rem-at
-nonzero-rem-at c = let b = held c.args.board.now in omega (arith, cycle_some b (board_ranges c.args.board.now), c.cycle.ensures)
+pub nonzero_rem-at : goal.nonzero_rem-at
+nonzero_rem-at c = let b = held c.args.board.now in omega (arith, cycle_some b (board_ranges c.args.board.now), c.cycle.ensures)
 
-pub returns-then-owns-all : goal.returns-then-owns-all
-returns-then-owns-all c =
+pub returns-then-owns_all : goal.returns-then-owns_all
+returns-then-owns_all c =
     let b = held c.args.board.now in
-    let all : OwnedBy c.in-Some.owner b.slots = subst (OwnedBy c.in-Some.owner) c.slots-slots.ensures (c.owns-all.ensures c.if-owns-all.true) in
+    let all : OwnedBy c.in-Some.owner b.slots = subst (OwnedBy c.in-Some.owner) c.slots-slots.ensures (c.owns_all.ensures c.if-owns_all.true) in
     stays_ever b c.args.at c.in-Some.owner 4294967295 (cycle_some b (board_ranges c.args.board.now)) (omega arith) all
 
 pub returns : goal.returns

@@ -8,10 +8,10 @@ use Rattle.scheduler.specs.View.{board_of, state_of}
 use Rattle.scheduler.proofs.Calls.{raise_refused, raise_taken}
 use Rattle.scheduler.proofs.kernel.Core.raise.Goals as goal
 
-pub returns-in-err-check : goal.returns-in-err-check
-returns-in-err-check g c =
-    let p = err_from_is_err_and c.from-residual.result c.from-residual.ensures.1 in
-    let told = c.in-err-check.ensures ∙ ap (λ m. answer (raise_fault (board_of c.args.self.now.tables) (state_of c.args.self.now.tables) m c.args.line)) c.word.ensures in
+pub returns-in_err-check : goal.returns-in_err-check
+returns-in_err-check g c =
+    let p = err_from_is_err_and c.from_residual.result c.from_residual.ensures.1 in
+    let told = c.in_err-check.ensures ∙ ap (λ m. answer (raise_fault (board_of c.args.self.now.tables) (state_of c.args.self.now.tables) m c.args.line)) c.word.ensures in
     rw (p.1, p.2)
     (record {
       raised = raise_refused g.M.Monitor.lines g.M.Monitor.ready g.M.Monitor.ceiling g.M.Monitor.left (core_of c.args.self.now) c.args.mask.now.word c.args.line c.args.tag _ told;
@@ -21,7 +21,7 @@ returns-in-err-check g c =
 
 pub returns : goal.returns
 returns g c =
-    let told = c.in-ok-check.ensures ∙ ap (λ m. answer (raise_fault (board_of c.args.self.now.tables) (state_of c.args.self.now.tables) m c.args.line)) c.word.ensures in
+    let told = c.in_ok-check.ensures ∙ ap (λ m. answer (raise_fault (board_of c.args.self.now.tables) (state_of c.args.self.now.tables) m c.args.line)) c.word.ensures in
     record {
       raised = raise_taken g.M.Monitor.lines g.M.Monitor.ready g.M.Monitor.ceiling g.M.Monitor.left (core_of c.args.self.now) _ c.args.mask.now.word c.args.line c.args.tag _ told c.accept.ensures.taken;
       refused = λ err. absurd (grind arith);

@@ -24,8 +24,8 @@ loop-rest-init g c = (
   record { still = refl; so_far = inl (refl, refl) },
 )
 
-pub overflow-sub-rest : goal.overflow-sub-rest
-overflow-sub-rest g c =
+pub overflow_sub-rest : goal.overflow_sub-rest
+overflow_sub-rest g c =
     let low = lowest 16 c.loop-rest.rest (omega (arith, c.loop-rest-test.true)) c.loop-rest.invariant.0 in
     let bit = one_shl (count_trailing_zeros 16 c.loop-rest.rest) 16 low.inside in
     let fits = set_le c.loop-rest.rest (count_trailing_zeros 16 c.loop-rest.rest) low.set_there in

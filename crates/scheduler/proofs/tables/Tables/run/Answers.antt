@@ -25,15 +25,15 @@ room_for (Some f) c n h l = by (ltb c n) refl
 no_none : (n : ℕ) → None ≡ Some n → ⊥
 no_none n e = let z : ◌≡◌ {A = ℕ} 0 1 = cc in omega arith
 
-pub overflow-sub-ticks : goal.overflow-sub-ticks
-overflow-sub-ticks c = le_of_lt c.loop-ran-test.true
+pub overflow_sub-ticks : goal.overflow_sub-ticks
+overflow_sub-ticks c = le_of_lt c.loop-ran-test.true
 
-pub overflow-sub-slot : goal.overflow-sub-slot
-overflow-sub-slot c = omega (arith, c.burst-run.ensures.stretch.few, c.min-limit.ensures)
+pub overflow_sub-slot : goal.overflow_sub-slot
+overflow_sub-slot c = omega (arith, c.burst-run.ensures.stretch.few, c.min-limit.ensures)
 
 pub burst-run-requires : goal.burst-run-requires
 burst-run-requires c =
-    let here = c.slot-now-owner.ensures c.loop-ran.invariant.3 in
+    let here = c.slot_now-owner.ensures c.loop-ran.invariant.3 in
     let g = c.loop-ran.invariant.0 in
     let less = c.loop-ran-test.true in
     let clock = ap (λ (x : State). x.instant) g.state_after ∙ after_instant (board_of c.args.self.now) (state_of c.args.self.now) c.loop-ran.ran.ticks in
@@ -41,21 +41,21 @@ burst-run-requires c =
     let limit = c.min-limit.ensures in
     let some = here.lasting in
     record {
-      lasts = shorter_stay (held c.loop-ran.self.board) c.loop-ran.self.instant c.slot-now-owner.result.0 c.slot-now-owner.result.1 c.min-limit.result here (omega (arith, limit)) (omega (arith, limit, some, less));
+      lasts = shorter_stay (held c.loop-ran.self.board) c.loop-ran.self.instant c.slot_now-owner.result.0 c.slot_now-owner.result.1 c.min-limit.result here (omega (arith, limit)) (omega (arith, limit, some, less));
       clock = omega (arith, limit, clock, whole, less);
     }
 
-pub returns-then-not-has-place : goal.returns-then-not-has-place
-returns-then-not-has-place c =
-    let here = c.slot-now-owner.ensures c.loop-ran.invariant.3 in
+pub returns-then-not-has_place : goal.returns-then-not-has_place
+returns-then-not-has_place c =
+    let here = c.slot_now-owner.ensures c.loop-ran.invariant.3 in
     let b = board_of c.args.self.now in
     let s = state_of c.args.self.now in
     let t = state_of c.loop-ran.self in
     let g = c.loop-ran.invariant.0 in
     let same : held c.loop-ran.self.board ≡ b = ap held c.loop-ran.invariant.1 in
-    let own = now_owner (held c.loop-ran.self.board) c.loop-ran.self.instant c.slot-now-owner.result.0 c.slot-now-owner.result.1 here in
+    let own = now_owner (held c.loop-ran.self.board) c.loop-ran.self.instant c.slot_now-owner.result.0 c.slot_now-owner.result.1 here in
     let inside = spans_inside b s c.args.ticks c.args.spans.now c.args.finished.now c.loop-ran.ran.ticks c.loop-ran.ran.spans c.loop-ran.ran.finished t c.loop-ran.spans c.loop-ran.finished g in
-    let full = subst (λ y. false ≡ leb (length (grown (take c.loop-ran.ran.spans c.loop-ran.spans) (span t.instant 0 (tick y t).row))) (length c.loop-ran.spans)) same (c.if-not-has-place.ensures own inside) in
+    let full = subst (λ y. false ≡ leb (length (grown (take c.loop-ran.ran.spans c.loop-ran.spans) (span t.instant 0 (tick y t).row))) (length c.loop-ran.spans)) same (c.if-not-has_place.ensures own inside) in
     record {
       going = g;
       most =
@@ -66,7 +66,7 @@ returns-then-not-has-place c =
 
 pub returns-then-run-eq0 : goal.returns-then-run-eq0
 returns-then-run-eq0 c =
-    let here = c.slot-now-owner.ensures c.loop-ran.invariant.3 in
+    let here = c.slot_now-owner.ensures c.loop-ran.invariant.3 in
     let b = board_of c.args.self.now in
     let s = state_of c.args.self.now in
     let t = state_of c.loop-ran.self in
@@ -86,36 +86,36 @@ returns-then-run-eq0 c =
       board = c.burst-run.ensures.board ∙ c.loop-ran.invariant.1;
     }
 
-pub returns-in-default : goal.returns-in-default
-returns-in-default c =
-    let here = c.slot-now-owner.ensures c.loop-ran.invariant.3 in
+pub returns-in_default : goal.returns-in_default
+returns-in_default c =
+    let here = c.slot_now-owner.ensures c.loop-ran.invariant.3 in
     let b = board_of c.args.self.now in
     let s = state_of c.args.self.now in
     let t = state_of c.loop-ran.self in
     let g = c.loop-ran.invariant.0 in
-    let r : Row = record { kind = c.row-kind.result.0; who = c.row-kind.result.1; owner = c.slot-now-owner.result.0 } in
+    let r : Row = record { kind = c.row-kind.result.0; who = c.row-kind.result.1; owner = c.slot_now-owner.result.0 } in
     let inside = spans_inside b s c.args.ticks c.args.spans.now c.args.finished.now c.loop-ran.ran.ticks c.loop-ran.ran.spans c.loop-ran.ran.finished t c.loop-ran.spans c.loop-ran.finished g in
-    let own = now_owner (held c.loop-ran.self.board) c.loop-ran.self.instant c.slot-now-owner.result.0 c.slot-now-owner.result.1 here in
-    let has = subst (λ x. true ≡ leb (length (grown (take c.loop-ran.ran.spans c.loop-ran.spans) (span t.instant 0 x))) (length c.loop-ran.spans)) (c.row-kind.ensures own) (c.if-not-has-place.ensures own inside) in
+    let own = now_owner (held c.loop-ran.self.board) c.loop-ran.self.instant c.slot_now-owner.result.0 c.slot_now-owner.result.1 here in
+    let has = subst (λ x. true ≡ leb (length (grown (take c.loop-ran.ran.spans c.loop-ran.spans) (span t.instant 0 x))) (length c.loop-ran.spans)) (c.row-kind.ensures own) (c.if-not-has_place.ensures own inside) in
     let few : c.loop-ran.ran.ticks + c.burst-run.result.0 < 2 ^ 32 = omega (arith, c.burst-run.ensures.stretch.few, c.min-limit.ensures, c.loop-ran.invariant.2, c.loop-ran-test.true) in
     let fits = placeable b s c.args.ticks c.args.spans.now c.args.finished.now c.loop-ran.ran.ticks c.loop-ran.ran.spans c.loop-ran.ran.finished t c.loop-ran.spans c.loop-ran.finished g c.burst-run.result.0 r has few in
-    absurd (no_none _ (c.in-default.ensures fits).count)
+    absurd (no_none _ (c.in_default.ensures fits).count)
 
 pub loop-ran-preserved : goal.loop-ran-preserved
 loop-ran-preserved c =
-    let here = c.slot-now-owner.ensures c.loop-ran.invariant.3 in
+    let here = c.slot_now-owner.ensures c.loop-ran.invariant.3 in
     let b = board_of c.args.self.now in
     let s = state_of c.args.self.now in
     let t = state_of c.loop-ran.self in
     let g = c.loop-ran.invariant.0 in
-    let r : Row = record { kind = c.row-kind.result.0; who = c.row-kind.result.1; owner = c.slot-now-owner.result.0 } in
+    let r : Row = record { kind = c.row-kind.result.0; who = c.row-kind.result.1; owner = c.slot_now-owner.result.0 } in
     let same : held c.loop-ran.self.board ≡ b = ap held c.loop-ran.invariant.1 in
-    let own = now_owner (held c.loop-ran.self.board) c.loop-ran.self.instant c.slot-now-owner.result.0 c.slot-now-owner.result.1 here in
+    let own = now_owner (held c.loop-ran.self.board) c.loop-ran.self.instant c.slot_now-owner.result.0 c.slot_now-owner.result.1 here in
     let row = subst (λ x. (tick x t).row ≡ r) same (c.row-kind.ensures own) in
     let x = subst (λ y. Stretch y t c.min-limit.result (ltb c.loop-ran.ran.finished (length c.loop-ran.finished)) c.burst-run.result.0 c.burst-run.result.1 (state_of c.burst-run.new.self)) same c.burst-run.ensures.stretch in
     let inside = spans_inside b s c.args.ticks c.args.spans.now c.args.finished.now c.loop-ran.ran.ticks c.loop-ran.ran.spans c.loop-ran.ran.finished t c.loop-ran.spans c.loop-ran.finished g in
     let room-left = events_inside b s c.args.ticks c.args.spans.now c.args.finished.now c.loop-ran.ran.ticks c.loop-ran.ran.spans c.loop-ran.ran.finished t c.loop-ran.spans c.loop-ran.finished g in
-    let has = subst (λ x. true ≡ leb (length (grown (take c.loop-ran.ran.spans c.loop-ran.spans) (span t.instant 0 x))) (length c.loop-ran.spans)) (c.row-kind.ensures own) (c.if-not-has-place.ensures own inside) in
+    let has = subst (λ x. true ≡ leb (length (grown (take c.loop-ran.ran.spans c.loop-ran.spans) (span t.instant 0 x))) (length c.loop-ran.spans)) (c.row-kind.ensures own) (c.if-not-has_place.ensures own inside) in
     let limit = c.min-limit.ensures in
     let less = c.loop-ran-test.true in
     let few : c.loop-ran.ran.ticks + c.burst-run.result.0 < 2 ^ 32 = omega (arith, x.few, limit, c.loop-ran.invariant.2, less) in
@@ -129,6 +129,6 @@ loop-ran-preserved c =
           (state_of c.burst-run.new.self) r c.put.new.spans c.note-noted.new.finished (omega (arith, c.if-run-eq0.false)) (omega (arith, limit, less)) row x fits.has_place there room noted.0 noted.1,
       c.burst-run.ensures.board ∙ c.loop-ran.invariant.1,
       c.loop-ran.invariant.2,
-      subst (λ y. StaysOn (held y) c.burst-run.new.self.instant c.slot-now-owner.result.0 (c.slot-now-owner.result.1 - c.burst-run.result.0)) (sym c.burst-run.ensures.board)
-          (stays_on (held c.loop-ran.self.board) c.loop-ran.self.instant c.burst-run.new.self.instant c.slot-now-owner.result.0 c.slot-now-owner.result.1 c.burst-run.result.0 here clock),
+      subst (λ y. StaysOn (held y) c.burst-run.new.self.instant c.slot_now-owner.result.0 (c.slot_now-owner.result.1 - c.burst-run.result.0)) (sym c.burst-run.ensures.board)
+          (stays_on (held c.loop-ran.self.board) c.loop-ran.self.instant c.burst-run.new.self.instant c.slot_now-owner.result.0 c.slot_now-owner.result.1 c.burst-run.result.0 here clock),
     )

@@ -10,8 +10,8 @@ use Rattle.scheduler.proofs.BoardRanges.{board_ranges}
 use Rattle.scheduler.proofs.Taking.{found, taken}
 use Rattle.scheduler.proofs.tables.Tables.take.Goals as goal
 
-pub top-work-work-requires : goal.top-work-work-requires
-top-work-work-requires c =
+pub top_work-work-requires : goal.top_work-work-requires
+top_work-work-requires c =
     let b = board_of c.args.self.now in
     let line = found (length b.lines) c.args.line c.in-Some.wired (line_at b c.args.line) c.in-Some.ensures in
     let top = ap (λ (l : Line). l.top) line.1 in
@@ -24,8 +24,8 @@ returns-then-push c =
     record {
       state = λ known room.
           let line = found (length b.lines) c.args.line c.in-Some.wired (line_at b c.args.line) c.in-Some.ensures in
-          taken b s c.args.line c.args.tag c.args.permitted c.in-Some.wired (s.owed + c.top-work-work.result) (opened c.next-grant-grant.result) (queue_of c.push.new.self) line.1
-          (ap (λ n. s.owed + n) c.top-work-work.ensures.work) (c.next-grant-grant.ensures line.1 known) c.if-push.ensures.after;
+          taken b s c.args.line c.args.tag c.args.permitted c.in-Some.wired (s.owed + c.top_work-work.result) (opened c.next_grant-grant.result) (queue_of c.push.new.self) line.1
+          (ap (λ n. s.owed + n) c.top_work-work.ensures.work) (c.next_grant-grant.ensures line.1 known) c.if-push.ensures.after;
       board = refl;
     }
 
