@@ -11,7 +11,7 @@ pub loop-event-preserved : goal.loop-event-preserved
 loop-event-preserved g c plain =
     let before = c.loop-event.invariant plain in
     told_more finished_text g.W.Write.write_str_gives c.args.f.now c.loop-event.f c.write.new.self c.args.events.now c.loop-event.event-index _
-    c.loop-event-test.true before (c.in_ok-write.ensures.shows before.plain (refl {a = true}))
+    c.loop-event-test.true before (c.in_ok-write.ensures.writes before.plain (refl {a = true}))
 
 pub returns : goal.returns
 returns g c plain ok =

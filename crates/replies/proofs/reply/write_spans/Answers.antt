@@ -11,7 +11,7 @@ pub loop-span-preserved : goal.loop-span-preserved
 loop-span-preserved g c plain =
     let before = c.loop-span.invariant plain in
     told_more span_text g.W.Write.write_str_gives c.args.f.now c.loop-span.f c.write.new.self c.args.spans.now c.loop-span.span-index _
-    c.loop-span-test.true before (c.in_ok-write.ensures.shows before.plain (refl {a = true}))
+    c.loop-span-test.true before (c.in_ok-write.ensures.writes before.plain (refl {a = true}))
 
 pub returns : goal.returns
 returns g c plain ok =

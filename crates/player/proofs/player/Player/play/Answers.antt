@@ -7,28 +7,28 @@ use Rattle.player.proofs.player.Player.play.Goals as goal
 
 pub loop-reply-init : goal.loop-reply-init
 loop-reply-init g c =
-    told_none g.M.Monitor.lines g.M.Monitor.ready g.M.Monitor.ceiling g.M.Monitor.left g.row.O-Output.took g.row.O-Output.failed
+    told_none g.M.Monitor.lines g.M.Monitor.ready g.M.Monitor.ceiling g.M.Monitor.left g.O.Output.took g.O.Output.failed
     (player_place c.args.self.now) c.args.out.now
 
 pub loop-reply-preserved : goal.loop-reply-preserved
 loop-reply-preserved g c =
     let made = c.in-Some.ensures.turned in
-    told_more g.M.Monitor.lines g.M.Monitor.ready g.M.Monitor.ceiling g.M.Monitor.left g.row.O-Output.took g.row.O-Output.failed
+    told_more g.M.Monitor.lines g.M.Monitor.ready g.M.Monitor.ceiling g.M.Monitor.left g.O.Output.took g.O.Output.failed
     (player_place c.args.self.now) c.args.out.now (player_place c.loop-reply.self) c.loop-reply.out c.loop-reply.invariant
-    c.in-Some.reply made.0 (player_place c.turn.new.self) c.tell.new.self made.1 (c.in-ok-tell.ensures.told (refl {a = true}))
+    c.in-Some.reply made.0 (player_place c.turn.new.self) c.tell.new.self made.1 (c.in_ok-tell.ensures.told (refl {a = true}))
 
-pub returns-in-err-tell : goal.returns-in-err-tell
-returns-in-err-tell g c =
+pub returns-in_err-tell : goal.returns-in_err-tell
+returns-in_err-tell g c =
     let made = c.in-Some.ensures.turned in
-    let p = err_from_is_err_and c.from-residual.result c.from-residual.ensures.1 in
+    let p = err_from_is_err_and c.from_residual.result c.from_residual.ensures.1 in
     rw p.1
-    (cut_short g.M.Monitor.lines g.M.Monitor.ready g.M.Monitor.ceiling g.M.Monitor.left g.row.O-Output.took g.row.O-Output.failed
+    (cut_short g.M.Monitor.lines g.M.Monitor.ready g.M.Monitor.ceiling g.M.Monitor.left g.O.Output.took g.O.Output.failed
     (player_place c.args.self.now) c.args.out.now (player_place c.loop-reply.self) c.loop-reply.out c.loop-reply.invariant
-    c.in-Some.reply made.0 (player_place c.turn.new.self) c.tell.new.self made.1 (c.in-err-tell.ensures.stopped (refl {a = false})))
+    c.in-Some.reply made.0 (player_place c.turn.new.self) c.tell.new.self made.1 (c.in_err-tell.ensures.stopped (refl {a = false})))
 
 pub returns : goal.returns
 returns g c =
-    let made = c.in-default.ensures.turned in
-    all_told g.M.Monitor.lines g.M.Monitor.ready g.M.Monitor.ceiling g.M.Monitor.left g.row.O-Output.took g.row.O-Output.failed
+    let made = c.in_default.ensures.turned in
+    all_told g.M.Monitor.lines g.M.Monitor.ready g.M.Monitor.ceiling g.M.Monitor.left g.O.Output.took g.O.Output.failed
     (player_place c.args.self.now) c.args.out.now (player_place c.loop-reply.self) c.loop-reply.out c.loop-reply.invariant
     made.0 (player_place c.turn.new.self) made.1

@@ -5,7 +5,7 @@ use Rattle.player.proofs.player.Player.play.Given as goal
 
 abbrev pub invariant-loop-reply : goal.invariant-loop-reply
 invariant-loop-reply g l =
-    Told g.M.Monitor.lines g.M.Monitor.ready g.M.Monitor.ceiling g.M.Monitor.left g.row.O-Output.took g.row.O-Output.failed
+    Told g.M.Monitor.lines g.M.Monitor.ready g.M.Monitor.ceiling g.M.Monitor.left g.O.Output.took g.O.Output.failed
     (player_place l.initial.self) l.initial.out (player_place l.self) l.out
 
 abbrev pub decreases-loop-reply : goal.decreases-loop-reply
