@@ -11,14 +11,17 @@ use example::{Plan, board_k, plan_k};
 use model::Slot;
 use monitor::Monitor;
 use running::show_run;
+use std::process::ExitCode;
 use trouble::{Told, Trouble};
 
-fn main(rt: HostRuntime) -> Result<(), Trouble> {
-    let outcome = run(&rt);
-    if let Err(trouble) = &outcome {
-        let _ = rt.eprintln(trouble);
+fn main(rt: HostRuntime) -> ExitCode {
+    match run(&rt) {
+        Ok(()) => ExitCode::SUCCESS,
+        Err(trouble) => {
+            let _ = rt.eprintln(&trouble);
+            ExitCode::FAILURE
+        }
     }
-    outcome
 }
 
 fn run(rt: &impl Print) -> Result<(), Trouble> {

@@ -10,21 +10,28 @@ use example::{board_k, monitors_k};
 use player::play_sheet;
 use replies::Page;
 use std::io::Read;
+use std::process::ExitCode;
 
 // A sheet is read up to so many bytes; what follows is left out.
 const MOST_BYTES: u64 = 65_536;
 
-fn main(rt: HostRuntime) -> Result<(), Trouble> {
-    let outcome = run(&rt);
-    if let Err(trouble) = &outcome {
-        let _ = rt.eprintln(trouble);
+fn main(rt: HostRuntime) -> ExitCode {
+    match run(&rt) {
+        Ok(()) => ExitCode::SUCCESS,
+        Err(trouble) => {
+            let _ = rt.eprintln(&trouble);
+            ExitCode::FAILURE
+        }
     }
-    outcome
 }
 
 fn run(rt: &HostRuntime) -> Result<(), Trouble> {
     let sheet = sheet_of_input(rt)?;
-    let mut page = Page::new(Printer::new(rt.stdout()));
+    let printer = match Printer::new(rt.alloc(), rt.stdout()) {
+        Ok(printer) => printer,
+        Err(error) => return Err(Trouble::Output(error)),
+    };
+    let mut page = Page::new(printer);
     let played = play_sheet(board_k(), monitors_k(), &sheet, &mut page);
     if let Err(error) = page.into_inner().finish() {
         return Err(Trouble::Output(error));

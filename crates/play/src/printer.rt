@@ -1,4 +1,5 @@
 // Text to standard output, through a buffer.
+use std::alloc::Global;
 use std::io::{BufWriter, Stdout, Write};
 use std::{fmt, io};
 
@@ -10,11 +11,11 @@ pub struct Printer {
 }
 
 impl Printer {
-    pub fn new(out: Stdout) -> Printer {
-        Printer {
-            out: BufWriter::new(out),
+    pub fn new(alloc: Global, out: Stdout) -> io::Result<Printer> {
+        Ok(Printer {
+            out: BufWriter::new(alloc, out)?,
             error: None,
-        }
+        })
     }
 
     // Writes what the buffer still holds; an earlier error comes first.

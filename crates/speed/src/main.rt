@@ -8,6 +8,7 @@ use distance::Distance;
 use model::{Finished, Kind, Line, Overheads, Refusal, Slot, Span};
 use monitor::Pair;
 use scheduler::{Core, Mask};
+use std::process::ExitCode;
 use trouble::Trouble;
 
 fn slot(owner: u8, ticks: u32) -> Slot {
@@ -63,12 +64,14 @@ const FINISHED: Finished = Finished {
     at: 0,
 };
 
-fn main(rt: HostRuntime) -> Result<(), Trouble> {
-    let outcome = run(&rt);
-    if let Err(trouble) = &outcome {
-        let _ = rt.eprintln(trouble);
+fn main(rt: HostRuntime) -> ExitCode {
+    match run(&rt) {
+        Ok(()) => ExitCode::SUCCESS,
+        Err(trouble) => {
+            let _ = rt.eprintln(&trouble);
+            ExitCode::FAILURE
+        }
     }
-    outcome
 }
 
 fn run(rt: &impl Print) -> Result<(), Trouble> {

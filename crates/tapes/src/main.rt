@@ -10,12 +10,15 @@ mod runs;
 mod trouble;
 
 use runs::all;
+use std::process::ExitCode;
 use trouble::Trouble;
 
-fn main(rt: HostRuntime) -> Result<(), Trouble> {
-    let outcome = all(&rt);
-    if let Err(trouble) = &outcome {
-        let _ = rt.eprintln(trouble);
+fn main(rt: HostRuntime) -> ExitCode {
+    match all(&rt) {
+        Ok(()) => ExitCode::SUCCESS,
+        Err(trouble) => {
+            let _ = rt.eprintln(&trouble);
+            ExitCode::FAILURE
+        }
     }
-    outcome
 }
