@@ -14,53 +14,35 @@ const PAST: u32 = 4_000_000_001;
 const LAST: u32 = 4_294_967_295;
 
 // Asks for a line at an instant. The answer is as expected, and after a yes no earlier instant is ready.
-fn check_one<M: Monitor>(
-    rt: &impl Abort,
-    monitor: &mut M,
-    line: u32,
-    at: u32,
-    expected: bool,
-) -> Result<(), Fail> {
+fn check_one<M: Monitor>(rt: &impl Abort, monitor: &mut M, line: u32, at: u32, expected: bool) {
     let lines = monitor.lines();
-    assert_eq!(rt; monitor.ready(line, at), expected);
-    assert_eq!(rt; monitor.ask(line, at), expected);
-    assert_eq!(rt; monitor.lines(), lines);
+    assert_eq!(rt; monitor.ready(line, at), expected, "line {line} at {at}");
+    assert_eq!(rt; monitor.ask(line, at), expected, "line {line} at {at}");
+    assert_eq!(rt; monitor.lines(), lines, "line {line} at {at}");
     if expected && at > 0 {
-        assert!(rt; !monitor.ready(line, at - 1));
+        assert!(rt; !monitor.ready(line, at - 1), "line {line} at {at}");
     }
-    Ok(())
 }
 
 // Asks in turn for a line at an instant, with the answer expected.
-fn check_asked<M: Monitor>(
-    rt: &impl Abort,
-    monitor: &mut M,
-    asked: &[(u32, u32, bool)],
-) -> Result<(), Fail> {
+fn check_asked<M: Monitor>(rt: &impl Abort, monitor: &mut M, asked: &[(u32, u32, bool)]) {
     for (line, at, expected) in asked.iter() {
-        check_one(rt, monitor, *line, *at, *expected).note(format_args!("line {line} at {at}"))?;
+        check_one(rt, monitor, *line, *at, *expected);
     }
-    Ok(())
 }
 
 // Asks in turn for line 0 at these instants; the permits are those expected, in their order.
-fn check_permits<M: Monitor>(
-    rt: &impl Abort,
-    monitor: &mut M,
-    asked: &[u32],
-    permits: &[u32],
-) -> Result<(), Fail> {
+fn check_permits<M: Monitor>(rt: &impl Abort, monitor: &mut M, asked: &[u32], permits: &[u32]) {
     let mut given = 0;
     for at in asked.iter() {
         let expected = given < permits.len() && permits[given] == *at;
-        check_one(rt, monitor, 1, *at, false)?;
-        check_one(rt, monitor, 0, *at, expected).note(format_args!("at {at}"))?;
+        check_one(rt, monitor, 1, *at, false);
+        check_one(rt, monitor, 0, *at, expected);
         if expected {
             given += 1;
         }
     }
     assert_eq!(rt; given, permits.len());
-    Ok(())
 }
 
 #[test]
@@ -71,14 +53,15 @@ fn distances_answer(rt: HostRuntime) -> Result<(), Fail> {
         &mut far,
         &[0, 0, 99, 100, 50, 250, 349, 350, BEFORE, END, PAST],
         &[0, 100, 250, 350, BEFORE],
-    )?;
+    );
     let mut near = distance(1)?;
     check_permits(
         &rt,
         &mut near,
         &[0, 0, 1, 2, 1, BEFORE, BEFORE, PAST, END, END, LAST],
         &[0, 1, 2, BEFORE, END],
-    )
+    );
+    Ok(())
 }
 
 #[test]
@@ -89,26 +72,27 @@ fn trails_answer(rt: HostRuntime) -> Result<(), Fail> {
         &mut two,
         &[0, 9, 10, 39, 40, 49, 50, 60, 79, 80, 90, 89],
         &[0, 10, 40, 50, 80, 90],
-    )?;
+    );
     check_permits(
         &rt,
         &mut two,
         &[200, 210, 239, 240, END, PAST],
         &[200, 210, 240, END],
-    )?;
+    );
     let mut five = trail(&[2, 5, 5, 20, 100])?;
     check_permits(
         &rt,
         &mut five,
         &[3, 4, 5, 8, 12, 13, 22, 23, 30, 102, 103, 104],
         &[3, 5, 8, 12, 23, 103],
-    )?;
+    );
     check_permits(
         &rt,
         &mut five,
         &[105, 107, 108, 110, LAST, END, END],
         &[105, 108, END],
-    )
+    );
+    Ok(())
 }
 
 #[test]
@@ -119,20 +103,21 @@ fn budgets_answer(rt: HostRuntime) -> Result<(), Fail> {
         &mut one,
         &[49, 50, 99, 49, 100, 149, 150, 249, 250, 251, 299, END],
         &[49, 50, 100, 150, 249, 250, END],
-    )?;
+    );
     let mut three = budget(3, 10)?;
     check_permits(
         &rt,
         &mut three,
         &[4, 4, 3, 9, 9, 0, 10, 9, 19, 19, 19, 18, 20],
         &[4, 4, 9, 10, 19, 19, 20],
-    )?;
+    );
     check_permits(
         &rt,
         &mut three,
         &[BEFORE, END, END, END, END, PAST, LAST],
         &[BEFORE, END, END, END],
-    )
+    );
+    Ok(())
 }
 
 #[test]
@@ -144,7 +129,7 @@ fn joints_answer(rt: HostRuntime) -> Result<(), Fail> {
         &mut spent,
         &[0, 29, 30, 40, 49, 50, 80, 99, 100],
         &[0, 50, 100],
-    )?;
+    );
     // a no of the distance leaves the budget as it was
     let mut close = Joint::new(distance(60)?, budget(1, 50)?);
     check_permits(
@@ -152,7 +137,7 @@ fn joints_answer(rt: HostRuntime) -> Result<(), Fail> {
         &mut close,
         &[0, 50, 59, 60, 99, 119, 120, 149, 179, 180],
         &[0, 60, 120, 180],
-    )?;
+    );
     // of the second only line 0 counts
     let mut deep = Joint::new(
         Joint::new(distance(7)?, trail(&[3, 50])?),
@@ -163,13 +148,14 @@ fn joints_answer(rt: HostRuntime) -> Result<(), Fail> {
         &mut deep,
         &[3, 9, 10, 17, 39, 40, 52, 53, 59, 60, 79, 80],
         &[3, 10, 53, 60],
-    )?;
+    );
     check_permits(
         &rt,
         &mut deep,
         &[102, 103, 110, 119, 120, 152, 153, END, PAST],
         &[103, 110, 153, END],
-    )
+    );
+    Ok(())
 }
 
 // A distance of 10 limited by two permits in 50 is line 0, a trail of 5 and 30 line 1, a distance of 100 line 2.
@@ -214,7 +200,8 @@ fn pairs_of_joints_answer(rt: HostRuntime) -> Result<(), Fail> {
     let limited = Joint::new(distance(10)?, budget(2, 50)?);
     let mut monitor = Pair::new(limited, Pair::new(trail(&[5, 30])?, distance(100)?));
     assert_eq!(rt; monitor.lines(), 3);
-    check_asked(&rt, &mut monitor, &PAIR_OF_JOINT)
+    check_asked(&rt, &mut monitor, &PAIR_OF_JOINT);
+    Ok(())
 }
 
 // A distance of 10 is line 0, a trail of 5 and 20 line 1, together limited by three permits in 100.
@@ -250,5 +237,6 @@ const JOINT_OF_PAIR: [(u32, u32, bool); 25] = [
 fn joints_of_pairs_answer(rt: HostRuntime) -> Result<(), Fail> {
     let mut monitor = Joint::new(Pair::new(distance(10)?, trail(&[5, 20])?), budget(3, 100)?);
     assert_eq!(rt; monitor.lines(), 2);
-    check_asked(&rt, &mut monitor, &JOINT_OF_PAIR)
+    check_asked(&rt, &mut monitor, &JOINT_OF_PAIR);
+    Ok(())
 }

@@ -13,7 +13,7 @@ fn check_holds(
     slots: &[Slot],
     lines: &[Line],
     overheads: Overheads,
-) -> Result<(), Fail> {
+) {
     assert_eq!(rt; board.partitions(), partitions);
     assert_eq!(rt; board.slots().len(), slots.len());
     for (held, given) in board.slots().iter().zip(slots.iter()) {
@@ -29,7 +29,6 @@ fn check_holds(
     assert_eq!(rt; held.check, overheads.check);
     assert_eq!(rt; held.reschedule, overheads.reschedule);
     assert_eq!(rt; held.switch, overheads.switch);
-    Ok(())
 }
 
 // Fills board K anew: it is replaced where no refusal is expected, and else it is as before.
@@ -43,9 +42,14 @@ fn refill(
 ) -> Result<(), Fail> {
     let mut board = board_k()?;
     let answer = told(board.fill(partitions, slots, lines, overheads));
-    assert_eq!(rt; answer, expected);
+    assert_eq!(rt;
+        answer,
+        expected,
+        "{partitions} partitions, {slots:?}, {lines:?}, {overheads:?}"
+    );
     if answer.is_ok() {
-        return check_holds(rt, &board, partitions, slots, lines, overheads);
+        check_holds(rt, &board, partitions, slots, lines, overheads);
+        return Ok(());
     }
     let before = board_k()?;
     check_holds(
@@ -55,7 +59,7 @@ fn refill(
         before.slots(),
         before.lines(),
         before.overheads(),
-    )?;
+    );
     assert_eq!(rt; board.cycle(), 16);
     Ok(())
 }
@@ -92,8 +96,7 @@ fn counts_have_ends(rt: HostRuntime) -> Result<(), Fail> {
             few_lines,
             overheads(0, 0, 0),
             expected,
-        )
-        .note(format_args!("{partitions} partitions, {slot_count} slots, {line_count} lines"))?;
+        )?;
     }
     Ok(())
 }
@@ -117,9 +120,7 @@ fn slots_have_ends(rt: HostRuntime) -> Result<(), Fail> {
             let mut slots = [slot(1, 7); 16];
             slots[place as usize] = slot(owner, ticks);
             let expected = if fits { Ok(()) } else { Err((2, place)) };
-            refill(&rt, 3, &slots, &[], overheads(0, 0, 0), expected).note(format_args!(
-                "slot {place}: owner {owner}, {ticks} ticks"
-            ))?;
+            refill(&rt, 3, &slots, &[], overheads(0, 0, 0), expected)?;
         }
     }
     Ok(())
@@ -146,9 +147,7 @@ fn lines_have_ends(rt: HostRuntime) -> Result<(), Fail> {
             let mut lines = [line(1, 2, 3); 16];
             lines[place as usize] = line(owner, top, handler);
             let expected = if fits { Ok(()) } else { Err((3, place)) };
-            refill(&rt, 3, &[slot(0, 1)], &lines, overheads(0, 0, 0), expected).note(format_args!(
-                "line {place}: owner {owner}, costs {top} and {handler}"
-            ))?;
+            refill(&rt, 3, &[slot(0, 1)], &lines, overheads(0, 0, 0), expected)?;
         }
     }
     Ok(())
@@ -170,9 +169,7 @@ const OVERHEADS: [(u16, u16, u16, Result<(), (u8, u32)>); 8] = [
 fn overheads_have_ends(rt: HostRuntime) -> Result<(), Fail> {
     for (check, reschedule, switch, expected) in OVERHEADS {
         let tried = overheads(check, reschedule, switch);
-        refill(&rt, 1, &[slot(0, 1)], &[], tried, expected).note(format_args!(
-            "overheads {check}, {reschedule}, {switch}"
-        ))?;
+        refill(&rt, 1, &[slot(0, 1)], &[], tried, expected)?;
     }
     Ok(())
 }
@@ -229,7 +226,7 @@ fn boards_answer(rt: HostRuntime) -> Result<(), Fail> {
         assert_eq!(rt; board.owner_at(at), owner, "at {at}");
     }
     let new = Board::new();
-    check_holds(&rt, &new, 1, &[slot(0, 1)], &[], overheads(0, 0, 0))?;
+    check_holds(&rt, &new, 1, &[slot(0, 1)], &[], overheads(0, 0, 0));
     assert_eq!(rt; told(new.own(0)), Ok(1));
     assert_eq!(rt; told(new.own(1)), Err((6, 1)));
     assert_eq!(rt; told(new.full_cost(0)), Err((6, 0)));

@@ -74,7 +74,7 @@ const LINES: [(&[u8], &str); 52] = [
 #[test]
 fn lines(rt: HostRuntime) -> Result<(), Fail> {
     for (sheet, text) in LINES.iter() {
-        gives(&rt, rt.alloc(), sheet, text).note(text)?;
+        gives(&rt, rt.alloc(), sheet, text)?;
     }
     Ok(())
 }
@@ -103,7 +103,7 @@ const WIDTHS: [(&[u8], &str); 14] = [
 #[test]
 fn widths(rt: HostRuntime) -> Result<(), Fail> {
     for (sheet, text) in WIDTHS.iter() {
-        gives(&rt, rt.alloc(), sheet, text).note(text)?;
+        gives(&rt, rt.alloc(), sheet, text)?;
     }
     Ok(())
 }

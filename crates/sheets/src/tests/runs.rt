@@ -35,7 +35,7 @@ const RUNS: [(&[u8], &str); 8] = [
 #[test]
 fn runs(rt: HostRuntime) -> Result<(), Fail> {
     for (sheet, text) in RUNS.iter() {
-        gives(&rt, rt.alloc(), sheet, text).note(text)?;
+        gives(&rt, rt.alloc(), sheet, text)?;
     }
     Ok(())
 }
