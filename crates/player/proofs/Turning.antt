@@ -7,7 +7,7 @@ use Rattle.sheet.specs.declared.command.Command.TheVariants.{Raise, Strobe, SetM
 use Rattle.sheet.specs.declared.fault.Fault.{Fault}
 use Rattle.sheet.specs.Firsts.{first_of, later_of}
 use Rattle.replies.specs.declared.reply.Reply.{Reply}
-use Rattle.player.specs.Playing.{Place, on_line, Advances, Obeyed, Turned, TurnedBy, Turns, start as no-turn, turn}
+use Rattle.player.specs.Playing.{Place, on_line, Advances, Obeyed, TurnedBy, Turns, start as no-turn, turn}
 
 module _ {S : Type 0} (lines : S → ℕ) (ready : S → ℕ → ℕ → Bool) (ceiling : S → ℕ → ℕ → ℕ) (left : S → ℕ → ℕ → ℕ → ℕ) where
   -- a run of x that goes on by one call, given by what it is equal to

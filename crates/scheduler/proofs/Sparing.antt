@@ -4,7 +4,7 @@ use Rattle.model.specs.declared.refusal.Refusal.{Refusal}
 use Rattle.model.specs.declared.run.Answer.{Answer}
 use Rattle.model.specs.declared.run.Answer.TheVariants.{Permitted}
 use Rattle.model.specs.Tick.{State}
-use Rattle.model.specs.Core.{Core, raise_fault, in_foreign_slot, asks, permits, raised_state, told, Becomes, RaisedBy, Raised}
+use Rattle.model.specs.Core.{Core, raise_fault, in_foreign_slot, permits, raised_state, told, Becomes, RaisedBy, Raised}
 use Rattle.scheduler.specs.Spending.{SpentOnce}
 use Rattle.scheduler.specs.Words.{noting}
 

@@ -1,5 +1,5 @@
 -- A strobe by turns: lines passed over, a line raised, and all sixteen done.
-use Rattle.std.proofs.Common.{◌≡◌, ℕ, zero, suc, ◌+◌, ◌-◌, ◌^◌, ◌<◌, ◌≤◌, Bool, true, false, Ok, Err, Result, sym, refl, subst, add-zero, add-suc, arith}
+use Rattle.std.proofs.Common.{◌≡◌, ℕ, zero, suc, ◌+◌, ◌^◌, ◌<◌, ◌≤◌, Bool, true, false, Ok, Err, Result, sym, refl, subst, add-zero, add-suc, arith}
 use Rattle.model.specs.declared.refusal.Refusal.{Refusal}
 use Rattle.model.specs.declared.run.Answer.{Answer}
 use Rattle.model.specs.declared.run.Answer.TheVariants.{Permitted, Queued}

@@ -1,5 +1,5 @@
 -- What is left of the slots falls by the first.
-use Rattle.std.proofs.Common.{drop, arith}
+use Rattle.std.proofs.Common.{arith}
 use Rattle.std.proofs.lemmas.List.{at_drop_more, at_drop_all}
 use Rattle.model.specs.Board.{cycle_of, no_slot}
 use Rattle.board.proofs.table.sum_of.Goals as goal

@@ -1,7 +1,6 @@
 -- The owner of all places, or of the slot that the place is in.
 use Rattle.std.proofs.Common.{◌%◌, List, subst, subst₂, arith}
 use Rattle.model.specs.declared.board.Slot.{Slot}
-use Rattle.model.specs.Board.{cycle}
 use Rattle.model.proofs.Cycle.{cycle_some}
 use Rattle.board.specs.Held.{held}
 use Rattle.scheduler.specs.Slots.{OwnedBy, InSlot}
