@@ -1,5 +1,5 @@
 // What every monitor answers: how many lines it has, when a line is ready, and how many permits a window can hold.
-ghost use Rattle.std.specs.Prelude.{◌≡◌, ℕ, Bool, true};
+ghost use Rattle.std.specs.Prelude.{◌≡◌, ℕ, Bool, true, ⊤};
 ghost use Rattle.model.specs.Monitor.{MonitorLaws, Asked};
 
 pub trait Monitor {
@@ -12,8 +12,9 @@ pub trait Monitor {
     // the permits that a line can still get at instants from the first up to, not including, the second
     ghost left: { Self → ℕ → ℕ → ℕ → ℕ };
 
-    // what a monitor becomes by one permit of a line at an instant: the monitor before, the line, the instant, the monitor after
-    ghost spent: { Self → ℕ → ℕ → Self → Type 0 };
+    // what a monitor becomes by one permit of a line at an instant: the monitor before, the line, the instant, the monitor after;
+    // a kind that says nothing of it leaves it open
+    ghost spent: { Self → ℕ → ℕ → Self → Type 0 } = { λ _ _ _ _. ⊤ };
 
     fn lines(&self) -> u32
         ensures { result ≡ lines self.now };

@@ -34,7 +34,7 @@ fn within(slots: &[Slot], place: u32) -> Option<(u8, u32)>
 }
 
 // The owner at an instant, and for how long: to the slot's end, or for ever where there is no other.
-fn slot_at(board: &Board, at: u32) -> (u8, u32)
+pub fn slot_at(board: &Board, at: u32) -> (u8, u32)
     ensures { Stays (held board.now) at result.0 result.1 }
 {
     let slots = board.slots();
