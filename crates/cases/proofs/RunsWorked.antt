@@ -1,7 +1,7 @@
 -- The worked runs: by computing, and the permit of a pair of distances by its parts.
 use Rattle.std.proofs.Common.{◌≡◌, ℕ, suc, false, Ok, sym, refl, subst, arith}
 use Rattle.std.proofs.lemmas.Bool.Decides.{nat_tests}
-use Rattle.model.specs.declared.run.Answer.TheVariants.{Permitted as saysPermitted, Queued as saysQueued}
+use Rattle.model.specs.declared.run.Answer.TheVariants.{Permitted as says_permitted, Queued as says_queued}
 use Rattle.model.specs.Bits.{is_set}
 use Rattle.model.specs.Monitor.{Permitted}
 use Rattle.model.specs.Core.{Core, core, raised_state, Taken, Offered, StrobedBelow}
@@ -40,15 +40,15 @@ core_once = core board_k permitted_k once_raised
 abbrev core_both : Core (Pair DistanceState DistanceState)
 core_both = core board_k permitted_k (raised_state board_k once_raised 1 7 false)
 
-line_0 : Taken lines ready ceiling left core_k 0 7 (Ok saysPermitted) core_once
+line_0 : Taken lines ready ceiling left core_k 0 7 (Ok says_permitted) core_once
 line_0 = record { answered = refl; same_board = refl; state_after = refl; monitor_after = permitted }
 
-line_1 : Taken lines ready ceiling left core_once 1 7 (Ok saysQueued) core_both
+line_1 : Taken lines ready ceiling left core_once 1 7 (Ok says_queued) core_both
 line_1 = record { answered = refl; same_board = refl; state_after = refl; monitor_after = refl }
 
 two_lines : StrobedBelow lines ready ceiling left 2 0 3 7 core_k (3, 1) core_both
 unfolding StrobedBelow
-two_lines = (core_once, (1, 1), (core_k, (0, 0), (refl, refl), (Ok saysPermitted, line_0, refl)), (Ok saysQueued, line_1, refl))
+two_lines = (core_once, (1, 1), (core_k, (0, 0), (refl, refl), (Ok says_permitted, line_0, refl)), (Ok says_queued, line_1, refl))
 
 -- a line whose bit is not set is passed over
 pass : (k : ℕ) → is_set 3 k ≡ false → StrobedBelow lines ready ceiling left k 0 3 7 core_k (3, 1) core_both → StrobedBelow lines ready ceiling left (suc k) 0 3 7 core_k (3, 1) core_both

@@ -1,7 +1,7 @@
 -- Worked cases of runs on the example board.
 use Rattle.std.specs.Prelude.{◌≡◌, ℕ, zero, suc, Bool, true, false, List, [], ◌∷◌, replicate, Some, Ok, Err}
 use Rattle.model.specs.declared.refusal.Refusal.TheVariants.{QueueFull, Masked}
-use Rattle.model.specs.declared.run.Answer.TheVariants.{Permitted as saysPermitted}
+use Rattle.model.specs.declared.run.Answer.TheVariants.{Permitted as says_permitted}
 use Rattle.model.specs.declared.run.Finished.{Finished}
 use Rattle.model.specs.declared.run.Kind.{Kind}
 use Rattle.model.specs.declared.run.Kind.TheVariants.{Top, Switch, Interposed, Application}
@@ -84,7 +84,7 @@ example_calls =
     ∷ span 11 5 Application 1 1 ∷ span 16 4 Application 0 0 ∷ span 0 0 Application 0 0 ∷ [])
     (finished 7 0 0 9 ∷ finished 0 0 0 0 ∷ [])
     ∷ raise 2 1 5 (Err (Masked 1))
-    ∷ raise 0 0 7 (Ok saysPermitted)
+    ∷ raise 0 0 7 (Ok says_permitted)
     ∷ []
 
 pub record RunCases : Type 0 where

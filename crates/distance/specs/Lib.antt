@@ -1,4 +1,4 @@
--- The definitions that the contracts cite.
+-- The definitions that the contracts cite, and the laws that an impl gives as a ghost member.
 pub mod Distance
 pub mod View
 pub mod Distances

@@ -4,7 +4,7 @@ use Rattle.std.proofs.lemmas.Bool.Decides.{nat_tests}
 use Rattle.model.specs.declared.refusal.Refusal.{Refusal}
 use Rattle.model.specs.declared.refusal.Refusal.TheVariants.{NoSuch, Masked, QueueFull}
 use Rattle.model.specs.declared.run.Answer.{Answer}
-use Rattle.model.specs.declared.run.Answer.TheVariants.{Permitted as saysPermitted, Queued as saysQueued}
+use Rattle.model.specs.declared.run.Answer.TheVariants.{Permitted as says_permitted, Queued as says_queued}
 use Rattle.model.specs.declared.run.Span.{Span}
 use Rattle.model.specs.declared.run.Finished.{Finished}
 use Rattle.model.specs.declared.run.Ran.{Ran}
@@ -111,18 +111,18 @@ module _ {S : Type 0} (lines : S → ℕ) (ready : S → ℕ → ℕ → Bool) (
   noted_shows : (mask k tag : ℕ) (r : Result Answer Refusal) (v : ℕ × ℕ) (h : History) → Small k v
       → with_events h (strobed_onto (suc k) tag (noted lines ready ceiling left k r v) h.clock h.events)
       ≡ showing (raise mask k tag r) (with_events h (strobed_onto k tag v h.clock h.events))
-  noted_shows mask k tag (Ok saysPermitted) v h small =
+  noted_shows mask k tag (Ok says_permitted) v h small =
       ap (with_events h)
       (shows k tag h.clock (v.0 + 2 ^ k, v.1 + 2 ^ k) v h.events true true (set_above v.0 k small.0) (set_above v.1 k small.1)
       (λ j l. (below_set v.0 j k l, below_set v.1 j k l)))
-  noted_shows mask k tag (Ok saysQueued) v h small =
+  noted_shows mask k tag (Ok says_queued) v h small =
       ap (with_events h)
       (shows k tag h.clock (v.0 + 2 ^ k, v.1) v h.events true false (set_above v.0 k small.0) (unset_above v.1 k small.1) (λ j l. (below_set v.0 j k l, refl)))
   noted_shows mask k tag (Err e) v h small = passed_shows k tag v h small
 
   noted_small : (k : ℕ) (r : Result Answer Refusal) (v : ℕ × ℕ) → Small k v → Small (suc k) (noted lines ready ceiling left k r v)
-  noted_small k (Ok saysPermitted) v small = (sum_fits v.0 k small.0, sum_fits v.1 k small.1)
-  noted_small k (Ok saysQueued) v small = (sum_fits v.0 k small.0, omega (arith, small.1))
+  noted_small k (Ok says_permitted) v small = (sum_fits v.0 k small.0, sum_fits v.1 k small.1)
+  noted_small k (Ok says_queued) v small = (sum_fits v.0 k small.0, omega (arith, small.1))
   noted_small k (Err e) v small = (omega (arith, small.0), omega (arith, small.1))
 
   -- one call's steps after another's

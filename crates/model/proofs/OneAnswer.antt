@@ -4,7 +4,7 @@ use Rattle.std.proofs.lemmas.Nat.{pow_pos}
 use Rattle.std.proofs.lemmas.List.{take-append-drop}
 use Rattle.model.specs.declared.refusal.Refusal.{Refusal}
 use Rattle.model.specs.declared.run.Answer.{Answer}
-use Rattle.model.specs.declared.run.Answer.TheVariants.{Permitted as saysPermitted, Queued as saysQueued}
+use Rattle.model.specs.declared.run.Answer.TheVariants.{Permitted as says_permitted, Queued as says_queued}
 use Rattle.model.specs.declared.run.Span.{Span}
 use Rattle.model.specs.declared.run.Finished.{Finished}
 use Rattle.model.specs.declared.run.Ran.{Ran}
@@ -79,9 +79,9 @@ module _ {S : Type 0} (lines : S → ℕ) (ready : S → ℕ → ℕ → Bool) (
   -- what two raises of one line from alike cores come to
   data Outcome (x y : Core S) (k : ℕ) (q r : Result Answer Refusal) (z w : Core S) : Type 0 where
     refused : (f : Refusal) → q ≡ Err f → r ≡ Err f → z ≡ x → w ≡ y → Outcome x y k q r z w
-    waits : q ≡ Ok saysQueued → r ≡ Ok saysQueued → z.board ≡ w.board → z.state ≡ w.state → z.state.granted ≡ x.state.granted
+    waits : q ≡ Ok says_queued → r ≡ Ok says_queued → z.board ≡ w.board → z.state ≡ w.state → z.state.granted ≡ x.state.granted
         → z.monitor ≡ x.monitor → w.monitor ≡ y.monitor → Outcome x y k q r z w
-    granted : (g : Grant) → q ≡ Ok saysPermitted → r ≡ Ok saysPermitted → z.board ≡ w.board → z.state ≡ w.state → z.state.granted ≡ Some g
+    granted : (g : Grant) → q ≡ Ok says_permitted → r ≡ Ok says_permitted → z.board ≡ w.board → z.state ≡ w.state → z.state.granted ≡ Some g
         → permits lines ready ceiling left x k ≡ true → Outcome x y k q r z w
 
   taken_outcome : (x y : Core S) (k tag : ℕ) (q r : Result Answer Refusal) (z w : Core S) → Alike x y → (permit : Bool) → permits lines ready ceiling left x k ≡ permit
@@ -163,14 +163,14 @@ module _ {S : Type 0} (lines : S → ℕ) (ready : S → ℕ → ℕ → Bool) (
       by (waits e e' bs ss g i j) =
           let kept : v' ≡ (v.0 + 2 ^ k, v.1) = o.2 ∙ ap (λ x. noted lines ready ceiling left k x v) e in
           record {
-            words = noted_as (Ok saysQueued) e e';
+            words = noted_as (Ok says_queued) e e';
             alike = record { boards = bs; states = ss; monitors = λ none. i ∙ (s.alike.monitors (sym g ∙ none) ∙ sym j) };
             unpermitted = λ none. i ∙ (s.unpermitted (ap (λ (x : ℕ × ℕ). x.1) (sym kept) ∙ none) ∙ sym j);
           }
       by (granted g e e' bs ss o' q) =
           let kept : v' ≡ (v.0 + 2 ^ k, v.1 + 2 ^ k) = o.2 ∙ ap (λ x. noted lines ready ceiling left k x v) e in
           record {
-            words = noted_as (Ok saysPermitted) e e';
+            words = noted_as (Ok says_permitted) e e';
             alike = record { boards = bs; states = ss; monitors = λ none. let z : ◌≡◌ {A = ℕ} 0 1 = cc (o', none) in absurd (omega arith) };
             unpermitted = λ none. let weight = ap (λ (x : ℕ × ℕ). x.1) (sym kept) ∙ none in absurd (omega (arith, pow_pos k));
           }

@@ -3,7 +3,7 @@ use Rattle.std.specs.Prelude.{◌≡◌, ℕ, zero, suc, ◌+◌, ◌-◌, ◌^�
 use Rattle.model.specs.declared.refusal.Refusal.{Refusal}
 use Rattle.model.specs.declared.refusal.Refusal.TheVariants.{NoSuch, Masked, QueueFull, PastEnd}
 use Rattle.model.specs.declared.run.Answer.{Answer}
-use Rattle.model.specs.declared.run.Answer.TheVariants.{Permitted as saysPermitted, Queued as saysQueued}
+use Rattle.model.specs.declared.run.Answer.TheVariants.{Permitted as says_permitted, Queued as says_queued}
 use Rattle.model.specs.declared.run.Event.{Event}
 use Rattle.model.specs.declared.run.Span.{Span}
 use Rattle.model.specs.declared.run.Finished.{Finished}
@@ -68,7 +68,7 @@ raised_state b s k tag permitted =
     }
 
 abbrev pub told : Bool → Answer
-told permitted = cond permitted saysPermitted saysQueued
+told permitted = cond permitted says_permitted says_queued
 
 -- Advancing.
 
@@ -135,8 +135,8 @@ module _ {S : Type 0} (lines : S → ℕ) (ready : S → ℕ → ℕ → Bool) (
 
   -- the two words with line k noted by what raising it answered; a refused line is in neither
   abbrev pub noted : ℕ → Result Answer Refusal → ℕ × ℕ → ℕ × ℕ
-  noted k (Ok saysPermitted) w = (w.0 + 2 ^ k, w.1 + 2 ^ k)
-  noted k (Ok saysQueued) w = (w.0 + 2 ^ k, w.1)
+  noted k (Ok says_permitted) w = (w.0 + 2 ^ k, w.1 + 2 ^ k)
+  noted k (Ok says_queued) w = (w.0 + 2 ^ k, w.1)
   noted k (Err e) w = w
 
   -- line k in its turn: raised if its bit is set, else passed over

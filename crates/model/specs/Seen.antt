@@ -1,7 +1,7 @@
 -- What a caller saw of a run, from the calls' arguments, answers and buffers alone.
 use Rattle.std.specs.Prelude.{◌≡◌, ℕ, zero, suc, ◌+◌, ◌<◌, Bool, true, false, cond, ◌&&◌, List, [], ◌∷◌, ◌++◌, length, take, Ok, Err, ◌==◌, nat_le, nat_lt, slice_index_or}
 use Rattle.model.specs.declared.run.Answer.{Answer}
-use Rattle.model.specs.declared.run.Answer.TheVariants.{Permitted as saysPermitted, Queued as saysQueued}
+use Rattle.model.specs.declared.run.Answer.TheVariants.{Permitted as says_permitted, Queued as says_queued}
 use Rattle.model.specs.declared.run.Kind.{Kind}
 use Rattle.model.specs.declared.run.Kind.TheVariants.{Top, Switch, Interposed, Bottom, Application}
 use Rattle.model.specs.declared.run.Span.{Span}
@@ -71,8 +71,8 @@ done_onto [] ds = ds
 done_onto (f ∷ fs) ds = done_onto fs (f ∷ ds)
 
 abbrev pub is_permit : Answer → Bool
-is_permit saysPermitted = true
-is_permit saysQueued = false
+is_permit says_permitted = true
+is_permit says_queued = false
 
 -- one call more; a refused call shows nothing
 abbrev pub showing : Call → History → History

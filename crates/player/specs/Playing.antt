@@ -2,7 +2,7 @@
 use Rattle.std.specs.Prelude.{◌≡◌, ℕ, zero, suc, ◌-◌, Bool, List, [], ◌∷◌, ◌++◌, replicate, Some, None, Ok, Err, Option, Result}
 use Rattle.model.specs.declared.refusal.Refusal.{Refusal}
 use Rattle.model.specs.declared.run.Answer.{Answer}
-use Rattle.model.specs.declared.run.Answer.TheVariants.{Permitted as saysPermitted, Queued as saysQueued}
+use Rattle.model.specs.declared.run.Answer.TheVariants.{Permitted as says_permitted, Queued as says_queued}
 use Rattle.model.specs.declared.run.Kind.TheVariants.{Application}
 use Rattle.model.specs.declared.run.Span.{Span}
 use Rattle.model.specs.declared.run.Finished.{Finished}
@@ -55,8 +55,8 @@ blank_events = replicate 64 (record { tag = 0; line = 0; raised = 0; at = 0 })
 
 -- the reply to a raise, on a line of the sheet
 abbrev pub raised_reply : ℕ → Result Answer Refusal → Reply
-raised_reply line (Ok saysPermitted) = Permitted
-raised_reply line (Ok saysQueued) = Queued
+raised_reply line (Ok says_permitted) = Permitted
+raised_reply line (Ok says_queued) = Queued
 raised_reply line (Err e) = Refused line (Declined e)
 
 abbrev pub strobed_reply : ℕ × ℕ → Reply

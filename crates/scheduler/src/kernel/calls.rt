@@ -1,6 +1,6 @@
 // Making a core, raising events on it, running its ticks, and asking where it stands.
 ghost use Rattle.std.specs.Prelude.{◌≡◌, ◌<◌, true, length, is_err, Ok};
-ghost use Rattle.model.specs.declared.run.Answer.TheVariants.{Permitted as saysPermitted};
+ghost use Rattle.model.specs.declared.run.Answer.TheVariants.{Permitted as says_permitted};
 ghost use Rattle.model.specs.Core.{new_core, Raised, Taken, Advanced};
 ghost use Rattle.model.specs.Laws.{Laws};
 ghost use Rattle.board.specs.Held.{held};
@@ -30,7 +30,7 @@ impl<M: Monitor> Core<M> {
     pub fn raise(&mut self, mask: &Mask, line: u32, tag: u32) -> Result<Answer, Refusal>
         ensures raised { Raised M.Monitor.lines M.Monitor.ready M.Monitor.ceiling M.Monitor.left (core_of self.old) mask.now.word line tag result (core_of self.new) }
         ensures refused { is_err result ≡ true → self.new ≡ self.old }
-        ensures once { result ≡ Ok saysPermitted → M.Monitor.spent self.old.monitor line (core_of self.old).state.instant self.new.monitor }
+        ensures once { result ≡ Ok says_permitted → M.Monitor.spent self.old.monitor line (core_of self.old).state.instant self.new.monitor }
     {
         self.tables.check(mask.word(), line)?;
         Ok(self.accept(line, tag))
@@ -51,7 +51,7 @@ impl<M: Monitor> Core<M> {
 
     // Takes an event that no check refuses.
     fn accept(&mut self, line: u32, tag: u32) -> Answer
-        ensures once { result ≡ saysPermitted → M.Monitor.spent self.old.monitor line (core_of self.old).state.instant self.new.monitor }
+        ensures once { result ≡ says_permitted → M.Monitor.spent self.old.monitor line (core_of self.old).state.instant self.new.monitor }
         ensures taken { line < length (core_of self.old).board.lines → length ((core_of self.old).state.queue (line_at (core_of self.old).board line).owner) < 32 → Taken M.Monitor.lines M.Monitor.ready M.Monitor.ceiling M.Monitor.left (core_of self.old) line tag (Ok result) (core_of self.new) }
     {
         let permitted = self.permit(line);
