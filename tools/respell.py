@@ -26,6 +26,8 @@ ALONE = {
     "with-core": "with_core_lem",
     "carriage-return": "after_carriage_return",
 }
+# A field of a record in this crate, and no lemma.
+FIELDS = {"cases": {"in-range": "in_range"}}
 # A definition of one crate and a field of another that no file has both of.
 APART = {"no_line"}
 MODULE = re.compile(r"(?:specs|proofs)/Lib\.antt$")
@@ -109,7 +111,7 @@ def main(argv):
         with open(p, encoding="utf-8") as f:
             text = f.read()
         made = "c|goal" if p.endswith("Answers.antt") else "l|goal|given" if p.endswith("Invariants.antt") else "goal"
-        new = turned(text, rows, p.endswith(".rt"), made)
+        new = turned(text, {**rows, **FIELDS.get(p.split("/")[1], {})}, p.endswith(".rt"), made)
         if new != text:
             with open(p, "w", encoding="utf-8") as f:
                 f.write(new)

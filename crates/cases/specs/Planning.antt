@@ -28,7 +28,7 @@ module _ {S : Type 0} (ready : S → ℕ → ℕ → Bool) (after : S → ℕ �
 
 pub record PlanningCases : Type 0 where
   -- no check refuses board K
-  pub in_range_lem : fault board_k ≡ None
+  pub in_range : fault board_k ≡ None
   -- its slots take 16 ticks together
   pub cycle_of_16 : cycle board_k ≡ 16
   -- partition 0 has 10 ticks of them

@@ -1,5 +1,5 @@
 // Writing spans and finished events to the front of a caller's buffers.
-ghost use Rattle.std.specs.Prelude.{◌≡◌, ◌+◌, ◌-◌, ◌^◌, ◌<◌, ◌≤◌, ◌++◌, length, get_or, take, Some, nat_le, slice_index_or, slice_set};
+ghost use Rattle.std.specs.Prelude.{◌≡◌, ◌+◌, ◌-◌, ◌^◌, ◌<◌, ◌≤◌, ◌++◌, length, take, Some, nat_le, slice_index_or, slice_set};
 ghost use Rattle.model.specs.Tape.{alike, grown, longer};
 ghost use Rattle.scheduler.specs.Buffers.{Fronted, lengthens_last, no_span, Placeable, PutThere};
 ghost use Rattle.scheduler.specs.Stretches.{list_of};
@@ -45,7 +45,7 @@ pub fn put(spans: &mut [Span], written: usize, next: Span) -> Option<usize>
 
 // The last of the first `written` spans made longer.
 fn lengthen(spans: &mut [Span], written: usize, by: u32) -> Option<usize>
-    ensures { 0 < written → written ≤ length spans.old → (get_or spans.old (written - 1) no_span).ticks + by < 2 ^ 32 → (result ≡ Some written) × (spans.new ≡ slice_set spans.old (written - 1) (longer (slice_index_or spans.old (written - 1) no_span) by)) }
+    ensures { 0 < written → written ≤ length spans.old → (slice_index_or spans.old (written - 1) no_span).ticks + by < 2 ^ 32 → (result ≡ Some written) × (spans.new ≡ slice_set spans.old (written - 1) (longer (slice_index_or spans.old (written - 1) no_span) by)) }
 {
     if written == 0 || written > spans.len() {
         return None;

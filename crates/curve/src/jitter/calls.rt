@@ -1,13 +1,9 @@
 // Making and setting a jitter curve, and what it answers.
-ghost use Rattle.std.specs.Prelude.{◌≡◌, ◌+◌, refl};
+ghost use Rattle.std.specs.Prelude.{◌≡◌};
 ghost use Rattle.model.specs.Calls.{Replaced};
 ghost use Rattle.curve.specs.Single.{single};
 ghost use Rattle.curve.specs.Jitter.{jitter_of, periodic, jitter_new, jitter_fault, jitter_most};
-ghost use Rattle.std.proofs.Common.{arith};
-ghost use Rattle.std.proofs.lemmas.Bool.Decides.{nat_tests};
-ghost use Rattle.model.specs.Limits.{instants};
-ghost use Rattle.windows.proofs.Up.{up_mono, up_within};
-ghost use Rattle.curve.specs.Laws.{single_laws};
+ghost use Rattle.curve.specs.Laws.{jitter_laws};
 
 use super::Jitter;
 use crate::curve::Curve;
@@ -44,10 +40,7 @@ impl Curve for Jitter {
 
     ghost most = { λ c. single (jitter_most (jitter_of c)) };
 
-    ghost lawful = { λ c.
-        single_laws (jitter_most (jitter_of c)) refl
-        (λ v w le. let h = up_mono (v + c.jitter) (w + c.jitter) c.period c.some (omega arith) in Prim.grind (arith, nat_tests))
-        (let h = up_within (instants + c.jitter) c.period c.some in omega arith) };
+    ghost lawful = { λ c. jitter_laws (jitter_of c) c.some c.jitter_few };
 
     fn lines(&self) -> u32 {
         1

@@ -3,10 +3,7 @@ ghost use Rattle.std.specs.Prelude.{◌≡◌};
 ghost use Rattle.model.specs.Calls.{Replaced};
 ghost use Rattle.curve.specs.Single.{single};
 ghost use Rattle.curve.specs.Sporadic.{sporadic_of, spaced, sporadic_new, sporadic_fault, sporadic_most};
-ghost use Rattle.std.proofs.Common.{arith};
-ghost use Rattle.model.specs.Limits.{instants};
-ghost use Rattle.windows.proofs.Up.{up_mono, up_none, up_within};
-ghost use Rattle.curve.specs.Laws.{single_laws};
+ghost use Rattle.curve.specs.Laws.{sporadic_laws};
 
 use super::Sporadic;
 use crate::curve::Curve;
@@ -37,9 +34,7 @@ impl Curve for Sporadic {
 
     ghost most = { λ c. single (sporadic_most (sporadic_of c)) };
 
-    ghost lawful = { λ c.
-        single_laws (sporadic_most (sporadic_of c)) (up_none c.distance c.some) (λ v w. up_mono v w c.distance c.some)
-        (let h = up_within instants c.distance c.some in omega arith) };
+    ghost lawful = { λ c. sporadic_laws (sporadic_of c) c.some };
 
     fn lines(&self) -> u32 {
         1

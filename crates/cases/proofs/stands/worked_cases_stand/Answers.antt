@@ -11,7 +11,7 @@ planning : PlanningCases
 unfolding sum_to least all_to
 planning =
     record {
-      in_range_lem = refl;
+      in_range = refl;
       cycle_of_16 = refl;
       own_of_0 = refl;
       own_of_1 = refl;
