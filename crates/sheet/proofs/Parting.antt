@@ -35,10 +35,10 @@ one_by stop end b bs false e rec h =
     rw (e, rec l) refl
 
 -- a word, with or without bytes
-one_word : (stop : ℕ) (bs : List ℕ) → length bs ≤ before stop bs → parts stop ([] ∷ []) bs ≡ bs ∷ []
+one_word_lem : (stop : ℕ) (bs : List ℕ) → length bs ≤ before stop bs → parts stop ([] ∷ []) bs ≡ bs ∷ []
 unfolding parts
-one_word stop [] h = refl
-one_word stop (b ∷ bs) h = one_by stop ([] ∷ []) b bs (eqb b stop) refl (λ l. ap (onto b) (one_word stop bs l)) h
+one_word_lem stop [] h = refl
+one_word_lem stop (b ∷ bs) h = one_by stop ([] ∷ []) b bs (eqb b stop) refl (λ l. ap (onto b) (one_word_lem stop bs l)) h
 
 -- a line, of one byte or more
 one_line : (stop : ℕ) (bs : List ℕ) → 0 < length bs → length bs ≤ before stop bs → parts stop [] bs ≡ bs ∷ []
@@ -67,7 +67,7 @@ pub words_last : (ws : Words) (n : ℕ) → ws.more ≡ true → n ≡ before 32
     words_left ws ≡ part ws.place (take n ws.rest.now) ∷ []
 words_last ws n t e h =
     let all : take n ws.rest.now ≡ ws.rest.now = take_all n ws.rest.now (omega arith) in
-    rw (t, one_word 32 ws.rest.now (omega arith), all) refl
+    rw (t, one_word_lem 32 ws.rest.now (omega arith), all) refl
 
 -- a line takes `used` bytes: with its line feed, or all that are left
 lines_first : (at : ℕ) (bs : List ℕ) (n used : ℕ) → n ≡ before 10 bs → n < length bs → used ≡ n + 1 →
