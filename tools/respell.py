@@ -6,7 +6,8 @@ usage: python3 tools/respell.py          at the top of the repository: rewrites 
 
 Words go into snake case (ownerAt to owner_at, core-after to core_after); a type with a dash goes into camel case
 (Ranges-checked to RangesChecked). What the check makes of the sources keeps its spelling: names behind an answer's `c.`, an
-invariant's `l.` and `goal.`, the goals themselves, and every name of src/. It stops where two names would fall together.
+invariant's `l.`, `goal.` and `given.`, the goals themselves, and every name of src/. It stops where two names that
+port.py left apart would fall together in one file.
 """
 
 import glob
@@ -16,7 +17,7 @@ import sys
 WORD = r"[^\s(){}\[\].;,⟦⟧«»\"λ]+"
 DECLARED = re.compile(r"^\s*(?:(?:abbrev|unfoldable|pattern|pub|syntax)\s+)*(" + WORD + r")(?:\s+\{[^}]*\})?\s+:(?:\s|$)")
 RECORD = re.compile(r"^\s*(?:(?:abbrev|unfoldable|pub)\s+)*(?:record|data)\s+(" + WORD + r")")
-# A lemma that would have its function's name ends in _lem; a field that would hide a definition gets a name of its own.
+# A lemma that would have its definition's name ends in _lem; a field that would hide a definition gets a name of its own.
 ALONE = {
     "away-most": "away_most_lem",
     "in-range": "in_range_lem",
