@@ -1,10 +1,7 @@
 // Running ticks into a caller's buffers, stretch by stretch.
-ghost use Rattle.std.specs.Prelude.{◌≡◌, ◌+◌, ◌-◌, ◌<◌, ◌≤◌, length, take, Err, nat_le};
+ghost use Rattle.std.specs.Prelude.{◌≡◌, ◌+◌, ◌-◌, ◌<◌, ◌≤◌, length, Err};
 ghost use Rattle.model.specs.declared.refusal.Refusal.TheVariants.{PastEnd};
-ghost use Rattle.model.specs.Board.{owner_at};
 ghost use Rattle.model.specs.Limits.{end};
-ghost use Rattle.model.specs.Tape.{grown, span};
-ghost use Rattle.model.specs.Tick.{tick};
 ghost use Rattle.scheduler.specs.Ticking.{Going, Most, RunBy};
 ghost use Rattle.scheduler.specs.View.{board_of, state_of};
 
@@ -14,22 +11,6 @@ use crate::slots::slot_now;
 use model::{Finished, Ran, Refusal, Span};
 
 impl Tables {
-    // Whether the next tick, in a slot of `owner`, has a place behind the first `written` spans: it takes the next place, or
-    // lengthens the last span.
-    fn has_place(&self, spans: &[Span], written: usize, owner: u8) -> bool
-        ensures { owner_at (board_of self.now) self.now.instant ≡ owner → written ≤ length spans.now → result ≡ nat_le (length (grown (take written spans.now) (span self.now.instant 0 (tick (board_of self.now) (state_of self.now)).row))) (length spans.now) }
-    {
-        let (kind, who) = self.row(owner);
-        let next = Span {
-            first: self.instant,
-            ticks: 0,
-            kind,
-            who,
-            owner,
-        };
-        has_place(spans, written, next)
-    }
-
     // Runs as many of the ticks as their output fits, and never fewer.
     fn run(&mut self, ticks: u32, spans: &mut [Span], finished: &mut [Finished]) -> Ran
         requires { self.old.instant + ticks ≤ 4000000000 }
@@ -45,24 +26,24 @@ impl Tables {
         let mut slot = (0, 0);
         while ran.ticks < ticks {
             let (owner, rest) = slot_now(&self.board, self.instant, slot.0, slot.1);
-            if !self.has_place(spans, ran.spans, owner) {
-                return ran;
-            }
             let (kind, who) = self.row(owner);
             let first = self.instant;
+            let next = Span {
+                first,
+                ticks: 0,
+                kind,
+                who,
+                owner,
+            };
+            if !has_place(spans, ran.spans, next) {
+                return ran;
+            }
             let limit = rest.min(ticks - ran.ticks);
             let (run, ended) = self.burst(owner, limit, ran.finished < finished.len());
             if run == 0 {
                 return ran;
             }
-            let next = Span {
-                first,
-                ticks: run,
-                kind,
-                who,
-                owner,
-            };
-            let Some(written) = put(spans, ran.spans, next) else {
+            let Some(written) = put(spans, ran.spans, Span { ticks: run, ..next }) else {
                 return ran;
             };
             let noted = note(finished, ran.finished, ended);

@@ -1,8 +1,7 @@
 -- Each turn is one stretch more; it stops where the next tick has no place.
-use Rattle.std.proofs.Common.{◌≡◌, ℕ, ◌+◌, ◌-◌, ◌^◌, ◌<◌, ◌≤◌, Bool, true, false, ltb, leb, length, take, Some, None, Option, sym, refl, ap, ◌∙◌, subst, le_of_lt, arith}
+use Rattle.std.proofs.Common.{◌≡◌, ℕ, ◌+◌, ◌-◌, ◌^◌, ◌<◌, ◌≤◌, Bool, true, false, ltb, length, Some, None, Option, sym, refl, ap, ◌∙◌, subst, le_of_lt, arith}
 use Rattle.std.proofs.lemmas.Bool.Decides.{nat_tests}
 use Rattle.model.specs.declared.run.Finished.{Finished}
-use Rattle.model.specs.Tape.{grown, span}
 use Rattle.model.specs.Tick.{State, Row, tick, after}
 use Rattle.model.proofs.TapeTold.{after_instant}
 use Rattle.board.specs.Held.{held}
@@ -53,14 +52,15 @@ returns-then-not-has_place c =
     let t = state_of c.loop-ran.self in
     let g = c.loop-ran.invariant.0 in
     let same : held c.loop-ran.self.board ≡ b = ap held c.loop-ran.invariant.1 in
+    let r : Row = record { kind = c.row-kind.result.0; who = c.row-kind.result.1; owner = c.slot_now-owner.result.0 } in
     let own = now_owner (held c.loop-ran.self.board) c.loop-ran.self.instant c.slot_now-owner.result.0 c.slot_now-owner.result.1 here in
+    let row = subst (λ x. (tick x t).row ≡ r) same (c.row-kind.ensures own) in
     let inside = spans_inside b s c.args.ticks c.args.spans.now c.args.finished.now c.loop-ran.ran.ticks c.loop-ran.ran.spans c.loop-ran.ran.finished t c.loop-ran.spans c.loop-ran.finished g in
-    let full = subst (λ y. false ≡ leb (length (grown (take c.loop-ran.ran.spans c.loop-ran.spans) (span t.instant 0 (tick y t).row))) (length c.loop-ran.spans)) same (c.if-not-has_place.ensures own inside) in
     record {
       going = g;
       most =
           most_place b s c.args.ticks c.args.spans.now c.args.finished.now c.loop-ran.ran.ticks c.loop-ran.ran.spans c.loop-ran.ran.finished t c.loop-ran.spans c.loop-ran.finished g
-          (tick b t).row refl full;
+          r row (c.if-not-has_place.ensures inside);
       board = c.loop-ran.invariant.1;
     }
 
@@ -88,15 +88,13 @@ returns-then-run-eq0 c =
 
 pub returns-in_default : goal.returns-in_default
 returns-in_default c =
-    let here = c.slot_now-owner.ensures c.loop-ran.invariant.3 in
     let b = board_of c.args.self.now in
     let s = state_of c.args.self.now in
     let t = state_of c.loop-ran.self in
     let g = c.loop-ran.invariant.0 in
     let r : Row = record { kind = c.row-kind.result.0; who = c.row-kind.result.1; owner = c.slot_now-owner.result.0 } in
     let inside = spans_inside b s c.args.ticks c.args.spans.now c.args.finished.now c.loop-ran.ran.ticks c.loop-ran.ran.spans c.loop-ran.ran.finished t c.loop-ran.spans c.loop-ran.finished g in
-    let own = now_owner (held c.loop-ran.self.board) c.loop-ran.self.instant c.slot_now-owner.result.0 c.slot_now-owner.result.1 here in
-    let has = subst (λ x. true ≡ leb (length (grown (take c.loop-ran.ran.spans c.loop-ran.spans) (span t.instant 0 x))) (length c.loop-ran.spans)) (c.row-kind.ensures own) (c.if-not-has_place.ensures own inside) in
+    let has = c.if-not-has_place.ensures inside in
     let few : c.loop-ran.ran.ticks + c.burst-run.result.0 < 2 ^ 32 = omega (arith, c.burst-run.ensures.stretch.few, c.min-limit.ensures, c.loop-ran.invariant.2, c.loop-ran-test.true) in
     let fits = placeable b s c.args.ticks c.args.spans.now c.args.finished.now c.loop-ran.ran.ticks c.loop-ran.ran.spans c.loop-ran.ran.finished t c.loop-ran.spans c.loop-ran.finished g c.burst-run.result.0 r has few in
     absurd (no_none _ (c.in_default.ensures fits).count)
@@ -115,7 +113,7 @@ loop-ran-preserved c =
     let x = subst (λ y. Stretch y t c.min-limit.result (ltb c.loop-ran.ran.finished (length c.loop-ran.finished)) c.burst-run.result.0 c.burst-run.result.1 (state_of c.burst-run.new.self)) same c.burst-run.ensures.stretch in
     let inside = spans_inside b s c.args.ticks c.args.spans.now c.args.finished.now c.loop-ran.ran.ticks c.loop-ran.ran.spans c.loop-ran.ran.finished t c.loop-ran.spans c.loop-ran.finished g in
     let room-left = events_inside b s c.args.ticks c.args.spans.now c.args.finished.now c.loop-ran.ran.ticks c.loop-ran.ran.spans c.loop-ran.ran.finished t c.loop-ran.spans c.loop-ran.finished g in
-    let has = subst (λ x. true ≡ leb (length (grown (take c.loop-ran.ran.spans c.loop-ran.spans) (span t.instant 0 x))) (length c.loop-ran.spans)) (c.row-kind.ensures own) (c.if-not-has_place.ensures own inside) in
+    let has = c.if-not-has_place.ensures inside in
     let limit = c.min-limit.ensures in
     let less = c.loop-ran-test.true in
     let few : c.loop-ran.ran.ticks + c.burst-run.result.0 < 2 ^ 32 = omega (arith, x.few, limit, c.loop-ran.invariant.2, less) in
