@@ -2,6 +2,8 @@
 #![tactic(auto)]
 
 mod checks;
+mod layout;
 mod table;
 
+pub use layout::Layout;
 pub use table::Board;

@@ -3,7 +3,8 @@ ghost use Rattle.std.specs.Prelude.{◌≤◌};
 
 mod calls;
 
-// used counts the permits in the period of the latest; before the first permit both are 0.
+// used counts the permits in the period of the latest. Before the first permit both are 0: every answer is right with these
+// numbers, where an Option would be one case more in each.
 #[derive(Drop)]
 pub struct Budget {
     permits: u8,

@@ -12,7 +12,7 @@ use Rattle.monitor.proofs.OneLine.{one_asked, LinePermitted}
 use Rattle.distance.specs.Distance.{DistanceState, distance_new, distance_after, distance_rule, distance_most, distance_rest}
 use Rattle.distance.specs.Distances.{distance_spent}
 use Rattle.cases.specs.ExampleBoard.{board_k, monitors_k, core_k}
-use Rattle.cases.specs.Runs.{lines, ready, ceiling, left, RunCases, once_raised}
+use Rattle.cases.specs.Runs.{means, RunCases, once_raised}
 
 -- the monitors after line 0 was permitted at 0
 abbrev permitted_k : Pair DistanceState DistanceState
@@ -23,7 +23,7 @@ first_part =
     (one_asked distance_rule distance_most distance_rest (λ (s : DistanceState). s) (distance_new 100) 0 0 (distance_after (distance_new 100) 0) (distance_after (distance_new 100) 0) refl refl
     (λ ready-now. distance_spent (distance_new 100) 0 (omega arith) ready-now)).on_yes refl
 
-permitted : Permitted lines ready ceiling left monitors_k 0 0 permitted_k
+permitted : Permitted means monitors_k 0 0 permitted_k
 permitted =
     record {
       same_lines = refl;
@@ -40,22 +40,22 @@ core_once = core board_k permitted_k once_raised
 abbrev core_both : Core (Pair DistanceState DistanceState)
 core_both = core board_k permitted_k (raised_state board_k once_raised 1 7 false)
 
-line_0 : Taken lines ready ceiling left core_k 0 7 (Ok says_permitted) core_once
+line_0 : Taken means core_k 0 7 (Ok says_permitted) core_once
 line_0 = record { answered = refl; same_board = refl; state_after = refl; monitor_after = permitted }
 
-line_1 : Taken lines ready ceiling left core_once 1 7 (Ok says_queued) core_both
+line_1 : Taken means core_once 1 7 (Ok says_queued) core_both
 line_1 = record { answered = refl; same_board = refl; state_after = refl; monitor_after = refl }
 
-two_lines : StrobedBelow lines ready ceiling left 2 0 3 7 core_k (3, 1) core_both
+two_lines : StrobedBelow means 2 0 3 7 core_k (3, 1) core_both
 unfolding StrobedBelow
 two_lines = (core_once, (1, 1), (core_k, (0, 0), (refl, refl), (Ok says_permitted, line_0, refl)), (Ok says_queued, line_1, refl))
 
 -- a line whose bit is not set is passed over
-pass : (k : ℕ) → is_set 3 k ≡ false → StrobedBelow lines ready ceiling left k 0 3 7 core_k (3, 1) core_both → StrobedBelow lines ready ceiling left (suc k) 0 3 7 core_k (3, 1) core_both
+pass : (k : ℕ) → is_set 3 k ≡ false → StrobedBelow means k 0 3 7 core_k (3, 1) core_both → StrobedBelow means (suc k) 0 3 7 core_k (3, 1) core_both
 unfolding StrobedBelow
-pass k unset s = (core_both, (3, 1), s, subst (λ t. Offered lines ready ceiling left t 0 7 k core_both (3, 1) (3, 1) core_both) (sym unset) (refl, refl))
+pass k unset s = (core_both, (3, 1), s, subst (λ t. Offered means t 0 7 k core_both (3, 1) (3, 1) core_both) (sym unset) (refl, refl))
 
-all_lines : StrobedBelow lines ready ceiling left 16 0 3 7 core_k (3, 1) core_both
+all_lines : StrobedBelow means 16 0 3 7 core_k (3, 1) core_both
 all_lines =
     pass 15 refl (pass 14 refl (pass 13 refl (pass 12 refl (pass 11 refl (pass 10 refl (pass 9 refl (pass 8 refl (pass 7 refl
     (pass 6 refl (pass 5 refl (pass 4 refl (pass 3 refl (pass 2 refl two_lines)))))))))))))

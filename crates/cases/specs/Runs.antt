@@ -1,5 +1,5 @@
 -- Worked cases of runs on the example board.
-use Rattle.std.specs.Prelude.{◌≡◌, ℕ, zero, suc, Bool, true, false, List, [], ◌∷◌, replicate, Some, Ok, Err}
+use Rattle.std.specs.Prelude.{◌≡◌, ℕ, zero, suc, true, false, List, [], ◌∷◌, replicate, Some, Ok, Err}
 use Rattle.model.specs.declared.refusal.Refusal.TheVariants.{QueueFull, Masked}
 use Rattle.model.specs.declared.run.Answer.TheVariants.{Permitted as says_permitted}
 use Rattle.model.specs.declared.run.Finished.{Finished}
@@ -7,7 +7,9 @@ use Rattle.model.specs.declared.run.Kind.{Kind}
 use Rattle.model.specs.declared.run.Kind.TheVariants.{Top, Switch, Interposed, Application}
 use Rattle.model.specs.declared.run.Span.{Span}
 use Rattle.model.specs.Refusals.{number_of, place_of}
-use Rattle.model.specs.Tick.{State, Row, tick, fresh, after, ended_in}
+use Rattle.model.specs.Monitor.{Meaning, meant}
+use Rattle.model.specs.Tick.{State, tick, fresh, after, ended_in}
+use Rattle.model.specs.declared.run.Row.{Row}
 use Rattle.model.specs.Tape.{tape}
 use Rattle.model.specs.Core.{Core, core, permits, raised_state, raise_fault, Strobed}
 use Rattle.model.specs.Run.{Call, raise, advance, Run}
@@ -20,17 +22,10 @@ use Rattle.cases.specs.ExampleBoard.{board_k, monitors_k, core_k}
 abbrev pub one : DistanceState → ℕ
 one s = 1
 
-abbrev pub lines : Pair DistanceState DistanceState → ℕ
-lines = pair_lines one one
-
-abbrev pub ready : Pair DistanceState DistanceState → ℕ → ℕ → Bool
-ready = pair_ready one distance_ready distance_ready
-
-abbrev pub ceiling : Pair DistanceState DistanceState → ℕ → ℕ → ℕ
-ceiling = pair_ceiling one distance_ceiling distance_ceiling
-
-abbrev pub left : Pair DistanceState DistanceState → ℕ → ℕ → ℕ → ℕ
-left = pair_left one distance_left distance_left
+abbrev pub means : Meaning (Pair DistanceState DistanceState)
+means =
+    meant (pair_lines one one) (pair_ready one distance_ready distance_ready)
+    (pair_ceiling one distance_ceiling distance_ceiling) (pair_left one distance_left distance_left)
 
 abbrev pub span : ℕ → ℕ → Kind → ℕ → ℕ → Span
 span t n kind who owner = record { first = t; ticks = n; kind = kind; who = who; owner = owner }
@@ -89,9 +84,9 @@ example_calls =
 
 pub record RunCases : Type 0 where
   -- a first raise is permitted, one while a grant is open is not asked about, nor one in the line's own slot
-  pub first_permitted : permits lines ready ceiling left core_k 0 ≡ true
-  pub second_queued : (m : Pair DistanceState DistanceState) → permits lines ready ceiling left (core board_k m once_raised) 0 ≡ false
-  pub own_slot_queued : permits lines ready ceiling left (core board_k monitors_k (after board_k fresh 10)) 0 ≡ false
+  pub first_permitted : permits means core_k 0 ≡ true
+  pub second_queued : (m : Pair DistanceState DistanceState) → permits means (core board_k m once_raised) 0 ≡ false
+  pub own_slot_queued : permits means (core board_k monitors_k (after board_k fresh 10)) 0 ≡ false
   -- the example's twenty rows, its spans, and the event that it finishes
   pub example_rows :
       rows once_raised 20
@@ -110,6 +105,6 @@ pub record RunCases : Type 0 where
   pub full_number : number_of (QueueFull 1) ≡ 8
   pub full_place : place_of (QueueFull 1) ≡ 1
   -- strobe 3 at 0: taken 3, permitted 1, four ticks owed
-  pub strobed : (y : Core (Pair DistanceState DistanceState)) × Strobed lines ready ceiling left core_k 0 3 7 (3, 1) y × (y.state.owed ≡ 4)
+  pub strobed : (y : Core (Pair DistanceState DistanceState)) × Strobed means core_k 0 3 7 (3, 1) y × (y.state.owed ≡ 4)
   -- the example as a run
-  pub example_run : (y : Core (Pair DistanceState DistanceState)) × Run lines ready ceiling left core_k example_calls y × (y.state.instant ≡ 20)
+  pub example_run : (y : Core (Pair DistanceState DistanceState)) × Run means core_k example_calls y × (y.state.instant ≡ 20)

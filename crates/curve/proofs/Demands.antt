@@ -1,5 +1,5 @@
 -- The demand: it grows with the window, and fits its figures.
-use Rattle.std.proofs.Common.{◌≡◌, ℕ, zero, suc, ◌+◌, ◌-◌, ◌*◌, ◌<◌, ◌≤◌, Bool, true, false, cond, List, length, get_or, refl, div-mul-le_self, add-one, arith}
+use Rattle.std.proofs.Common.{◌≡◌, ℕ, zero, suc, ◌+◌, ◌-◌, ◌<◌, ◌≤◌, Bool, true, false, cond, length, refl, add-one, arith}
 use Rattle.std.proofs.lemmas.Nat.{mul-le}
 use Rattle.model.specs.declared.board.Line.{Line}
 use Rattle.model.specs.declared.board.Overheads.{Overheads}
@@ -7,8 +7,10 @@ use Rattle.board.specs.declared.table.Board.{Board}
 use Rattle.board.specs.Held.{held}
 use Rattle.model.proofs.Ranges.{in_range_lem}
 use Rattle.model.specs.Counting.{sum_to, up}
-use Rattle.model.specs.Board.{Layout, cycle, own, no_line, line_at, foreign, full_cost, grant_cost}
+use Rattle.model.specs.Board.{Layout, cycle, own, line_at, foreign, full_cost, grant_cost}
 use Rattle.model.specs.Demand.{share, grants, demand}
+use Rattle.model.specs.Curve.{CurveLaws}
+use Rattle.model.specs.Limits.{largest}
 use Rattle.windows.proofs.Up.{up_mono}
 
 -- a sum of larger terms is larger
@@ -44,33 +46,28 @@ pub sum_more : (n : ℕ) (f : ℕ → ℕ) → sum_to (n + 1) f ≡ sum_to n f +
 unfolding sum_to
 sum_more n f = rw (add-one n) refl
 
--- the costs of a line on a board, and of the board's overheads
-pub record Costs (l : Line) (o : Overheads) : Type 0 where
+-- the events of a line in a window, and the costs of the line and of the board's overheads
+pub record Figures (events : ℕ) (l : Line) (o : Overheads) : Type 0 where
+  pub counted : events ≤ largest
   pub top : l.top ≤ 1000
   pub handler : l.handler ≤ 10000
   pub check : o.check ≤ 1000
   pub reschedule : o.reschedule ≤ 1000
   pub switch : o.switch ≤ 1000
 
-pub costs : (b : Board) (k : ℕ) {ls : List Line} {o : Overheads} → k < length (held b).lines → ls ≡ (held b).lines → o ≡ (held b).overheads
-    → Costs (get_or ls k no_line) o
-costs b k known same over =
+pub figures : (b : Board) {lines : ℕ} {most : ℕ → ℕ → ℕ} → CurveLaws lines most → (k x : ℕ) {events : ℕ} {l : Line} {o : Overheads}
+    → events ≡ most k x → k < length (held b).lines → l ≡ line_at (held b) k → o ≡ (held b).overheads → Figures events l o
+figures b laws k x counted known read over =
     let r = in_range_lem (held b) b.in_range in
     let line = r.each_line k known in
-    rw (same, over) (record {
+    rw (counted, read, over) (record {
+      counted = laws.bounded k x;
       top = line.top_few;
       handler = line.handler_few;
       check = r.check_few;
       reschedule = r.reschedule_few;
       switch = r.switch_few;
     })
-
--- the ticks of others in a window are hardly more than the window
-pub away_few : (x t others : ℕ) → others ≤ t → up x t * others ≤ x + t
-away_few x t others part =
-    let whole = div-mul-le_self (x + (t - 1)) t in
-    let less = mul-le (up x t) others (up x t) t (omega arith) part in
-    omega arith
 
 module _ (b : Layout) (ceiling most : ℕ → ℕ → ℕ) where
   -- what line k takes from a window of x

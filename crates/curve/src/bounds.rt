@@ -1,14 +1,14 @@
 // The response-time bound of a partition: the least window that holds its own demand.
 ghost use Rattle.std.specs.Prelude.{◌≡◌, ◌-◌, ◌*◌, ◌<◌, ◌≤◌, length};
 ghost use Rattle.model.specs.Limits.{end, largest};
-ghost use Rattle.model.specs.Board.{cycle, own};
-ghost use Rattle.model.specs.Demand.{share, demand};
+ghost use Rattle.model.specs.Board.{cycle, own, line_at};
+ghost use Rattle.model.specs.Demand.{share, grants, demand};
 ghost use Rattle.board.specs.Held.{held};
 ghost use Rattle.curve.specs.Bounds.{BoundFound, BoundFoundOnce};
 
 use crate::curve::Curve;
 use board::Board;
-use model::Refusal;
+use model::{Line, Refusal};
 use monitor::Monitor;
 use windows::{END, lengths};
 
@@ -22,45 +22,50 @@ fn times(count: u64, cost: u32) -> u64
     count * u64::from(cost)
 }
 
-// What the events of a line, some of them granted, cost a partition.
-fn share_of(board: &Board, partition: u32, line: usize, events: u64, grants: u64) -> u64
-    requires known { line < length (held board.now).lines }
-    requires counted { events ≤ largest }
-    requires granted { grants ≤ events }
-    ensures value { result ≡ share (held board.now) partition line events grants }
-    ensures few { result ≤ largest * 39000 }
-{
-    let costs = board.lines()[line];
-    let overheads = board.overheads();
-    let grant = u32::from(overheads.reschedule) + 2 * u32::from(overheads.switch);
-    let handled = if u32::from(costs.owner) == partition {
-        times(events, u32::from(costs.handler)) + times(grants, grant)
-    } else {
-        times(grants, u32::from(costs.handler) + grant)
-    };
-    times(events, u32::from(costs.top) + u32::from(overheads.check)) + handled
+// The demand on one partition of a board.
+#[derive(Drop)]
+struct Load<'a, M, C> {
+    board: &'a Board,
+    monitor: &'a M,
+    curve: &'a C,
+    partition: u32,
+    // how many ticks of each cycle belong to the others
+    others: u32,
+    ghost away: { others ≡ cycle (held board.now) - own (held board.now) partition },
 }
 
-// The demand on a partition in a window, given how many ticks of each cycle belong to the others.
-fn demand_of<M: Monitor, C: Curve>(
-    board: &Board,
-    monitor: &M,
-    curve: &C,
-    partition: u32,
-    others: u32,
-    window: u64,
-) -> u64
-    requires away { others ≡ cycle (held board.now) - own (held board.now) partition }
-    requires short { window ≤ end }
-    ensures { result ≡ demand (held board.now) (M.Monitor.ceiling monitor.now) (C.Curve.most curve.now) partition window }
-{
-    let mut total = 0;
-    for line in 0..board.lines().len() {
-        let events = curve.most(line as u32, window);
-        let grants = events.min(monitor.ceiling(line as u32, window));
-        total += share_of(board, partition, line, events, grants);
+impl<M: Monitor, C: Curve> Load<'_, M, C> {
+    // What the events of a line in a window, some of them granted, cost the partition.
+    fn share(&self, k: u32, line: &Line, window: u64) -> u64
+        requires known { k < length (held self.now.board.now).lines }
+        requires read { line.now ≡ line_at (held self.now.board.now) k }
+        ensures value { result ≡ share (held self.now.board.now) self.now.partition k (C.Curve.most self.now.curve.now k window) (grants (held self.now.board.now) (M.Monitor.ceiling self.now.monitor.now) (C.Curve.most self.now.curve.now) k window) }
+        ensures few { result ≤ largest * 39000 }
+    {
+        let events = self.curve.most(k, window);
+        let grants = events.min(self.monitor.ceiling(k, window));
+        let overheads = self.board.overheads();
+        let grant = overheads.grant();
+        let handler = u32::from(line.handler);
+        let handled = if u32::from(line.owner) == self.partition {
+            times(events, handler) + times(grants, grant)
+        } else {
+            times(grants, handler + grant)
+        };
+        times(events, u32::from(line.top) + u32::from(overheads.check)) + handled
     }
-    total + lengths(window, board.cycle()) * u64::from(others)
+
+    // The demand in a window.
+    fn demand(&self, window: u64) -> u64
+        requires { window ≤ end }
+        ensures { result ≡ demand (held self.now.board.now) (M.Monitor.ceiling self.now.monitor.now) (C.Curve.most self.now.curve.now) self.now.partition window }
+    {
+        let mut total = 0;
+        for (k, line) in self.board.lines().iter().enumerate() {
+            total += self.share(k as u32, line, window);
+        }
+        total + lengths(window, self.board.cycle()) * u64::from(self.others)
+    }
 }
 
 // The bound of a partition, by trying each window that the last one's demand asks for.
@@ -72,10 +77,16 @@ pub fn bound<M: Monitor, C: Curve>(
 ) -> Result<u32, Refusal>
     ensures { BoundFound (held board.now) (M.Monitor.ceiling monitor.now) (C.Curve.most curve.now) partition result }
 {
-    let others = board.cycle() - board.own(partition)?;
+    let load = Load {
+        board,
+        monitor,
+        curve,
+        partition,
+        others: board.cycle() - board.own(partition)?,
+    };
     let mut window = 1;
     while window <= u64::from(END) {
-        let needed = demand_of(board, monitor, curve, partition, others, window);
+        let needed = load.demand(window);
         if needed <= window {
             return Ok(window as u32);
         }

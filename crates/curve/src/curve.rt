@@ -2,6 +2,7 @@
 ghost use Rattle.std.specs.Prelude.{◌≡◌, ℕ};
 ghost use Rattle.model.specs.Curve.{CurveLaws};
 
+// A line with a window is what is asked: a type for both would be made at each call and taken apart in it.
 pub trait Curve {
     ghost lines: { Self → ℕ };
 

@@ -10,5 +10,4 @@ mod sporadic;
 pub use bounds::{bound, bound_has_one_answer};
 pub use curve::Curve;
 pub use jitter::Jitter;
-pub use pair::CurvePair;
 pub use sporadic::Sporadic;

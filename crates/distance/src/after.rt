@@ -6,8 +6,5 @@ ghost use Rattle.distance.specs.Distance.{free};
 pub fn is_after(permit: Option<u32>, distance: u32, at: u32) -> bool
     ensures { result ≡ nat_le (free permit distance) at }
 {
-    match permit {
-        None => true,
-        Some(permit) => u64::from(permit) + u64::from(distance) <= u64::from(at),
-    }
+    permit.is_none_or(|permit| u64::from(permit) + u64::from(distance) <= u64::from(at))
 }

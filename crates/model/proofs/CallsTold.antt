@@ -18,17 +18,18 @@ use Rattle.model.specs.Seen.{History, Accepted, accepted, seen, showing, with_ev
 use Rattle.model.proofs.Steps.{Steps, none, event, ticked, note_event}
 use Rattle.model.proofs.TapeTold.{next_instant, note_ticks, tape_told}
 use Rattle.model.proofs.Words.{unset_above, set_above, below_set, sum_fits}
+use Rattle.model.specs.Monitor.{Meaning}
 
-module _ {S : Type 0} (lines : S → ℕ) (ready : S → ℕ → ℕ → Bool) (ceiling : S → ℕ → ℕ → ℕ) (left : S → ℕ → ℕ → ℕ → ℕ) where
+module _ {S : Type 0} (means : Meaning S) where
   -- steps on from a point where others ended
   pub join : {b : Layout} {h₀ : History} {m₀ : S} {s₀ : State} {h : History} {m : S} {s : State} {h' : History} {m' : S} {s' : State}
-      → Steps lines ready ceiling left b h₀ m₀ s₀ h m s → Steps lines ready ceiling left b h m s h' m' s' → Steps lines ready ceiling left b h₀ m₀ s₀ h' m' s'
+      → Steps means b h₀ m₀ s₀ h m s → Steps means b h m s h' m' s' → Steps means b h₀ m₀ s₀ h' m' s'
   join first none = first
   join first (event k tag permit steps known is becomes) = event k tag permit (join first steps) known is becomes
   join first (ticked steps) = ticked (join first steps)
 
   pub on_time : {b : Layout} {h₀ : History} {m₀ : S} {s₀ : State} {h : History} {m : S} {s : State}
-      → Steps lines ready ceiling left b h₀ m₀ s₀ h m s → h₀.clock ≡ s₀.instant → h.clock ≡ s.instant
+      → Steps means b h₀ m₀ s₀ h m s → h₀.clock ≡ s₀.instant → h.clock ≡ s.instant
   on_time none e = e
   on_time (event k tag permit steps known is becomes) e = on_time steps e
   on_time {b} (ticked {h} {m} {s} steps) e = ap suc (on_time steps e) ∙ sym (next_instant b s)
@@ -36,7 +37,7 @@ module _ {S : Type 0} (lines : S → ℕ) (ready : S → ℕ → ℕ → Bool) (
   -- a call takes one point to another on the same board
   pub record Stepped (x : Core S) (h h' : History) (y : Core S) : Type 0 where
     pub same_board : y.board ≡ x.board
-    pub steps : Steps lines ready ceiling left x.board h x.monitor x.state h' y.monitor y.state
+    pub steps : Steps means x.board h x.monitor x.state h' y.monitor y.state
 
   stay : (x y : Core S) (h : History) → y ≡ x → Stepped x h h y
   stay x y h e = subst (λ z. Stepped x h h z) (sym e) (record { same_board = refl; steps = none })
@@ -57,22 +58,22 @@ module _ {S : Type 0} (lines : S → ℕ) (ready : S → ℕ → ℕ → Bool) (
   told_back false = refl
 
   taken_steps : (x y : Core S) (mask k tag : ℕ) (r : Result Answer Refusal) (h : History) → raise_fault x.board x.state mask k ≡ None
-      → Taken lines ready ceiling left x k tag r y → Stepped x h (showing (raise mask k tag r) h) y
+      → Taken means x k tag r y → Stepped x h (showing (raise mask k tag r) h) y
   taken_steps x y mask k tag r h open_line t =
       record {
         same_board = t.same_board;
         steps =
-            subst₂ (λ h' s'. Steps lines ready ceiling left x.board h x.monitor x.state h' y.monitor s')
-            (sym (ap (λ v. showing (raise mask k tag v) h) t.answered ∙ ap (λ v. note_event h k tag v) (told_back (permits lines ready ceiling left x k))))
+            subst₂ (λ h' s'. Steps means x.board h x.monitor x.state h' y.monitor s')
+            (sym (ap (λ v. showing (raise mask k tag v) h) t.answered ∙ ap (λ v. note_event h k tag v) (told_back (permits means x k))))
             (sym t.state_after)
-            (event k tag (permits lines ready ceiling left x k) none (known_line x.board x.state mask k open_line) refl t.monitor_after);
+            (event k tag (permits means x k) none (known_line x.board x.state mask k open_line) refl t.monitor_after);
       }
 
   pub raise_steps : (x y : Core S) (mask k tag : ℕ) (r : Result Answer Refusal) (h : History)
-      → Raised lines ready ceiling left x mask k tag r y → Stepped x h (showing (raise mask k tag r) h) y
+      → Raised means x mask k tag r y → Stepped x h (showing (raise mask k tag r) h) y
   raise_steps x y mask k tag r h raised = by (raise_fault x.board x.state mask k) refl raised
     where
-      by : (f : Option Refusal) → raise_fault x.board x.state mask k ≡ f → RaisedBy lines ready ceiling left f x k tag r y → Stepped x h (showing (raise mask k tag r) h) y
+      by : (f : Option Refusal) → raise_fault x.board x.state mask k ≡ f → RaisedBy means f x k tag r y → Stepped x h (showing (raise mask k tag r) h) y
       by None is t = taken_steps x y mask k tag r h is t
       by (Some f) is t = subst (λ v. Stepped x h (showing (raise mask k tag v) h) y) (sym t.0) (stay x y h t.1)
 
@@ -109,7 +110,7 @@ module _ {S : Type 0} (lines : S → ℕ) (ready : S → ℕ → ℕ → Bool) (
 
   -- what noting line k shows: the line, if it was taken, onto what the words showed before
   noted_shows : (mask k tag : ℕ) (r : Result Answer Refusal) (v : ℕ × ℕ) (h : History) → Small k v
-      → with_events h (strobed_onto (suc k) tag (noted lines ready ceiling left k r v) h.clock h.events)
+      → with_events h (strobed_onto (suc k) tag (noted means k r v) h.clock h.events)
       ≡ showing (raise mask k tag r) (with_events h (strobed_onto k tag v h.clock h.events))
   noted_shows mask k tag (Ok says_permitted) v h small =
       ap (with_events h)
@@ -120,7 +121,7 @@ module _ {S : Type 0} (lines : S → ℕ) (ready : S → ℕ → ℕ → Bool) (
       (shows k tag h.clock (v.0 + 2 ^ k, v.1) v h.events true false (set_above v.0 k small.0) (unset_above v.1 k small.1) (λ j l. (below_set v.0 j k l, refl)))
   noted_shows mask k tag (Err e) v h small = passed_shows k tag v h small
 
-  noted_small : (k : ℕ) (r : Result Answer Refusal) (v : ℕ × ℕ) → Small k v → Small (suc k) (noted lines ready ceiling left k r v)
+  noted_small : (k : ℕ) (r : Result Answer Refusal) (v : ℕ × ℕ) → Small k v → Small (suc k) (noted means k r v)
   noted_small k (Ok says_permitted) v small = (sum_fits v.0 k small.0, sum_fits v.1 k small.1)
   noted_small k (Ok says_queued) v small = (sum_fits v.0 k small.0, omega (arith, small.1))
   noted_small k (Err e) v small = (omega (arith, small.0), omega (arith, small.1))
@@ -132,11 +133,11 @@ module _ {S : Type 0} (lines : S → ℕ) (ready : S → ℕ → ℕ → Bool) (
         same_board = second.same_board ∙ first.same_board;
         steps =
             join first.steps
-            (subst (λ b. Steps lines ready ceiling left b h' y.monitor y.state h'' z.monitor z.state) first.same_board second.steps);
+            (subst (λ b. Steps means b h' y.monitor y.state h'' z.monitor z.state) first.same_board second.steps);
       }
 
   offered_steps : (set : Bool) (mask word tag k : ℕ) (y z : Core S) (v w : ℕ × ℕ) (h : History) → Small k v
-      → Offered lines ready ceiling left set mask tag k y v w z
+      → Offered means set mask tag k y v w z
       → Stepped y (with_events h (strobed_onto k tag v h.clock h.events)) (with_events h (strobed_onto (suc k) tag w h.clock h.events)) z × Small (suc k) w
   offered_steps true mask word tag k y z v w h small o = (
     subst (λ x. Stepped y (with_events h (strobed_onto k tag v h.clock h.events)) x z)
@@ -151,7 +152,7 @@ module _ {S : Type 0} (lines : S → ℕ) (ready : S → ℕ → ℕ → Bool) (
     subst (Small (suc k)) (sym o.0) (omega (arith, small.0), omega (arith, small.1)),
   )
 
-  strobe_below : (n mask word tag : ℕ) (x y : Core S) (w : ℕ × ℕ) (h : History) → StrobedBelow lines ready ceiling left n mask word tag x w y
+  strobe_below : (n mask word tag : ℕ) (x y : Core S) (w : ℕ × ℕ) (h : History) → StrobedBelow means n mask word tag x w y
       → Stepped x h (with_events h (strobed_onto n tag w h.clock h.events)) y × Small n w
   unfolding StrobedBelow strobed_onto
   strobe_below zero mask word tag x y w h s = (stay x y h s.1, subst (Small 0) (sym s.0) (omega arith, omega arith))
@@ -162,7 +163,7 @@ module _ {S : Type 0} (lines : S → ℕ) (ready : S → ℕ → ℕ → Bool) (
 
   -- Advancing.
 
-  ticks_steps : (b : Layout) (s : State) (m : S) (h : History) (n : ℕ) → Steps lines ready ceiling left b h m s (note_ticks b s n h) m (after b s n)
+  ticks_steps : (b : Layout) (s : State) (m : S) (h : History) (n : ℕ) → Steps means b h m s (note_ticks b s n h) m (after b s n)
   ticks_steps b s m h zero = none
   ticks_steps b s m h (suc n) = ticked (ticks_steps b s m h n)
 
@@ -191,13 +192,13 @@ module _ {S : Type 0} (lines : S → ℕ) (ready : S → ℕ → ℕ → Bool) (
       by true (Err e) a = absurd a
       by false v a = subst (λ z. Stepped x h (showing (advance n spans events z spans' events') h) y) (sym a.0) (stay x y h a.1)
 
-  pub call_steps : (c : Call) (x y : Core S) (h : History) → h.clock ≡ x.state.instant → Called lines ready ceiling left x c y → Stepped x h (showing c h) y
+  pub call_steps : (c : Call) (x y : Core S) (h : History) → h.clock ≡ x.state.instant → Called means x c y → Stepped x h (showing c h) y
   call_steps (raise mask k tag r) x y h time c = raise_steps x y mask k tag r h c
   call_steps (strobe mask word tag w) x y h time c = (strobe_below 16 mask word tag x y w h c).0
   call_steps (advance n spans events r spans' events') x y h time c = advance_steps x y n spans events r spans' events' h time c
 
   -- A whole run, from a point that others led to.
-  pub run_steps : (pre : List Call) (x : Core S) → (seen pre).clock ≡ x.state.instant → {calls : List Call} {y : Core S} → Run lines ready ceiling left x calls y
+  pub run_steps : (pre : List Call) (x : Core S) → (seen pre).clock ≡ x.state.instant → {calls : List Call} {y : Core S} → Run means x calls y
       → Stepped x (seen pre) (seen (calls ++ pre)) y
   run_steps pre x time start = stay x x (seen pre) refl
   run_steps pre x time (call {calls} {y} {c} {z} run called) =

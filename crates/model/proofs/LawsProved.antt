@@ -5,7 +5,7 @@ use Rattle.std.proofs.lemmas.Bool.{cases_lt}
 use Rattle.std.proofs.lemmas.Bool.Decides.{nat_tests}
 use Rattle.model.specs.declared.run.Event.{Event}
 use Rattle.model.specs.Board.{Layout, InRange, line_at, foreign, full_cost, serves}
-use Rattle.model.specs.Monitor.{MonitorLaws}
+use Rattle.model.specs.Monitor.{Meaning, Lawful}
 use Rattle.model.specs.Tick.{State, fresh}
 use Rattle.model.specs.Core.{Core, new_core, raised_state, new_event, asks, Becomes}
 use Rattle.model.specs.Run.{Call, raise, strobe, advance, Run}
@@ -38,33 +38,33 @@ among_finished b p h s fifo n e is less =
           ∙ (ap (λ l. get_or l n (mark 0 0 0)) (sym (fifo.in_order p)) ∙ is);
     }
 
-module _ {S : Type 0} (lines : S → ℕ) (ready : S → ℕ → ℕ → Bool) (ceiling : S → ℕ → ℕ → ℕ) (left : S → ℕ → ℕ → ℕ → ℕ)
-    (laws : (m : S) → MonitorLaws (lines m) (ready m) (ceiling m) (left m)) (b : Layout) (ranges : InRange b) (m₀ : S) where
+module _ {S : Type 0} (means : Meaning S)
+    (laws : Lawful means) (b : Layout) (ranges : InRange b) (m₀ : S) where
   -- the steps of a run from a new core
-  from_new : (calls : List Call) (x : Core S) → Run lines ready ceiling left (new_core b m₀) calls x → Stepped lines ready ceiling left (new_core b m₀) unseen (seen calls) x
+  from_new : (calls : List Call) (x : Core S) → Run means (new_core b m₀) calls x → Stepped means (new_core b m₀) unseen (seen calls) x
   from_new calls x run =
-      subst (λ l. Stepped lines ready ceiling left (new_core b m₀) unseen (seen l) x) (append-nil calls) (run_steps lines ready ceiling left [] (new_core b m₀) refl run)
+      subst (λ l. Stepped means (new_core b m₀) unseen (seen l) x) (append-nil calls) (run_steps means [] (new_core b m₀) refl run)
 
-  loss_stands : (calls : List Call) (x : Core S) → Run lines ready ceiling left (new_core b m₀) calls x → LossBounded b (ceiling m₀) (seen calls)
+  loss_stands : (calls : List Call) (x : Core S) → Run means (new_core b m₀) calls x → LossBounded b (means.ceiling m₀) (seen calls)
   loss_stands calls x run p u w =
       let steps = (from_new calls x run).steps in
-      let lost = (losses lines ready ceiling left laws b ranges m₀ p u w steps).always in
-      let permitted = (reached lines ready ceiling left laws b ranges m₀ steps).permits in
+      let lost = (losses means laws b ranges m₀ p u w steps).always in
+      let permitted = (reached means laws b ranges m₀ steps).permits in
       let sums =
       sum_le (length b.lines) (λ k. cond (foreign b p k) (full_cost b k * count (permit_of k u w) (seen calls).events) 0)
-      (λ k. cond (foreign b p k) (full_cost b k * ceiling m₀ k w) 0) (λ k _. each (foreign b p k) k (omega (arith, permitted k u w))) in
+      (λ k. cond (foreign b p k) (full_cost b k * means.ceiling m₀ k w) 0) (λ k _. each (foreign b p k) k (omega (arith, permitted k u w))) in
       omega arith
     where
-      each : (f : Bool) (k : ℕ) → count (permit_of k u w) (seen calls).events ≤ ceiling m₀ k w
-          → cond f (full_cost b k * count (permit_of k u w) (seen calls).events) 0 ≤ cond f (full_cost b k * ceiling m₀ k w) 0
+      each : (f : Bool) (k : ℕ) → count (permit_of k u w) (seen calls).events ≤ means.ceiling m₀ k w
+          → cond f (full_cost b k * count (permit_of k u w) (seen calls).events) 0 ≤ cond f (full_cost b k * means.ceiling m₀ k w) 0
       each true k h = mul-le-mul_left (full_cost b k) h
       each false k h = omega arith
 
-  response_stands : (calls : List Call) (x : Core S) → Run lines ready ceiling left (new_core b m₀) calls x → Responsive b (ceiling m₀) (seen calls)
+  response_stands : (calls : List Call) (x : Core S) → Run means (new_core b m₀) calls x → Responsive b (means.ceiling m₀) (seen calls)
   response_stands calls x run known most curve kept p bound has n e less is long =
       let steps = (from_new calls x run).steps in
-      let at = reached lines ready ceiling left laws b ranges m₀ steps in
-      let now = busy lines ready ceiling left laws b ranges m₀ most p bound has.some has.meets steps kept in
+      let at = reached means laws b ranges m₀ steps in
+      let now = busy means laws b ranges m₀ most p bound has.some has.meets steps kept in
       among_finished b p (seen calls) x.state at.fifo n e is
       (⊎_elim (λ (l : n < length (finished_for b p (seen calls).done)). l)
       (λ (l : length (finished_for b p (seen calls).done) ≤ n). absurd (waits now.since at.fifo now.recent (omega (arith, now.so_far, now.short)) l))
@@ -90,15 +90,15 @@ module _ {S : Type 0} (lines : S → ℕ) (ready : S → ℕ → ℕ → Bool) (
     pub state : State
     pub then : S
     pub permit : Bool
-    pub reaches : Steps lines ready ceiling left b h₀ n₀ s₀ hist monitor state
+    pub reaches : Steps means b h₀ n₀ s₀ hist monitor state
     pub shown_before : hist.events ≡ earlier ++ h₀.events
     pub is_event : e ≡ accepted e.line e.tag hist.clock permit
     pub known : e.line < length b.lines
-    pub answered : permit ≡ (asks b state e.line && ready monitor e.line state.instant)
-    pub becomes : Becomes lines ready ceiling left permit monitor e.line state.instant then
-    pub goes_on : Steps lines ready ceiling left b (note_event hist e.line e.tag permit) then (raised_state b state e.line e.tag permit) h n s
+    pub answered : permit ≡ (asks b state e.line && means.ready monitor e.line state.instant)
+    pub becomes : Becomes means permit monitor e.line state.instant then
+    pub goes_on : Steps means b (note_event hist e.line e.tag permit) then (raised_state b state e.line e.tag permit) h n s
 
-  split : {h₀ : History} {n₀ : S} {s₀ : State} {h : History} {n : S} {s : State} → Steps lines ready ceiling left b h₀ n₀ s₀ h n s
+  split : {h₀ : History} {n₀ : S} {s₀ : State} {h : History} {n : S} {s : State} → Steps means b h₀ n₀ s₀ h n s
       → (later earlier : List Accepted) (e : Accepted) → h.events ≡ later ++ e ∷ (earlier ++ h₀.events) → Split h₀ n₀ s₀ h n s e earlier
   split {h₀} none later earlier e is =
       let long = ap length is ∙ (length-append later (e ∷ (earlier ++ h₀.events)) ∙ ap (λ n. length later + suc n) (length-append earlier h₀.events)) in
@@ -156,12 +156,12 @@ module _ {S : Type 0} (lines : S → ℕ) (ready : S → ℕ → ℕ → Bool) (
       }
 
   -- the clock does not run back; where it has not moved, no tick was run
-  no_later : {h₀ : History} {n₀ : S} {s₀ : State} {h : History} {n : S} {s : State} → Steps lines ready ceiling left b h₀ n₀ s₀ h n s → h₀.clock ≤ h.clock
+  no_later : {h₀ : History} {n₀ : S} {s₀ : State} {h : History} {n : S} {s : State} → Steps means b h₀ n₀ s₀ h n s → h₀.clock ≤ h.clock
   no_later none = omega arith
   no_later (event k tag permit steps known is becomes) = no_later steps
   no_later (ticked steps) = omega (arith, no_later steps)
 
-  still : {h₀ : History} {n₀ : S} {s₀ : State} {h : History} {n : S} {s : State} → Steps lines ready ceiling left b h₀ n₀ s₀ h n s → h.clock ≤ h₀.clock
+  still : {h₀ : History} {n₀ : S} {s₀ : State} {h : History} {n : S} {s : State} → Steps means b h₀ n₀ s₀ h n s → h.clock ≤ h₀.clock
       → h ≡ up_to h₀ h.events
   still none l = refl
   still {h₀} (event {h} k tag permit steps known is becomes) l =
@@ -170,7 +170,7 @@ module _ {S : Type 0} (lines : S → ℕ) (ready : S → ℕ → ℕ → Bool) (
   still (ticked steps) l = absurd (omega (arith, no_later steps))
 
   -- the monitor is as it was found while no grant is open as seen: a permit of the same instant would be an open one
-  same_monitor : {h₀ : History} {n₀ : S} {s₀ : State} {h : History} {n : S} {s : State} → Steps lines ready ceiling left b h₀ n₀ s₀ h n s → h.clock ≤ h₀.clock
+  same_monitor : {h₀ : History} {n₀ : S} {s₀ : State} {h : History} {n : S} {s : State} → Steps means b h₀ n₀ s₀ h n s → h.clock ≤ h₀.clock
       → AllBefore h₀.clock h₀.ticks → NoneOpen b (up_to h₀ h.events) → n ≡ n₀
   same_monitor none l past closed = refl
   same_monitor {h₀} (event {h} {m} {s} k tag true {n} steps known is becomes) l past closed =
@@ -243,15 +243,15 @@ module _ {S : Type 0} (lines : S → ℕ) (ready : S → ℕ → ℕ → Bool) (
         finished_so_far = omega arith;
       }
 
-  permitted_here : (s : State) (m : S) (k : ℕ) (permit : Bool) → s.granted ≡ None → serves b (line_at b k).owner s.instant ≡ false → ready m k s.instant ≡ true
-      → permit ≡ (asks b s k && ready m k s.instant) → permit ≡ true
+  permitted_here : (s : State) (m : S) (k : ℕ) (permit : Bool) → s.granted ≡ None → serves b (line_at b k).owner s.instant ≡ false → means.ready m k s.instant ≡ true
+      → permit ≡ (asks b s k && means.ready m k s.instant) → permit ≡ true
   permitted_here s m k permit closed apart yes-now is =
       is
-      ∙ (ap (λ t. (not t && not (is_some s.granted)) && ready m k s.instant) apart
-      ∙ (ap (λ g. not (is_some g) && ready m k s.instant) closed ∙ yes-now))
+      ∙ (ap (λ t. (not t && not (is_some s.granted)) && means.ready m k s.instant) apart
+      ∙ (ap (λ g. not (is_some g) && means.ready m k s.instant) closed ∙ yes-now))
 
   -- steps only add events
-  more_events : {h₀ : History} {n₀ : S} {s₀ : State} {h : History} {n : S} {s : State} → Steps lines ready ceiling left b h₀ n₀ s₀ h n s
+  more_events : {h₀ : History} {n₀ : S} {s₀ : State} {h : History} {n : S} {s : State} → Steps means b h₀ n₀ s₀ h n s
       → (new : List Accepted) × (h.events ≡ new ++ h₀.events)
   more_events none = ([], refl)
   more_events (event {h} k tag permit steps known is becomes) =
@@ -259,24 +259,24 @@ module _ {S : Type 0} (lines : S → ℕ) (ready : S → ℕ → ℕ → Bool) (
       (accepted k tag h.clock permit ∷ more.0, ap (λ es. accepted k tag h.clock permit ∷ es) more.1)
   more_events (ticked steps) = more_events steps
 
-  prompt_stands : Prompt lines ready ceiling left b m₀
+  prompt_stands : Prompt means b m₀
   prompt_stands before x run c y called calls z onwards later earlier e shows apart ready-then closed all_done long =
       let o = (line_at b e.line).owner in
       let first = from_new before x run in
-      let time = on_time lines ready ceiling left first.steps refl in
+      let time = on_time means first.steps refl in
       let on-board : x.board ≡ b = first.same_board in
-      let stepped = call_steps lines ready ceiling left c x y (seen before) time called in
+      let stepped = call_steps means c x y (seen before) time called in
       let second =
-      subst (λ v. Steps lines ready ceiling left v (seen before) x.monitor x.state (seen (c ∷ before)) y.monitor y.state) on-board stepped.steps in
+      subst (λ v. Steps means v (seen before) x.monitor x.state (seen (c ∷ before)) y.monitor y.state) on-board stepped.steps in
       let third =
-      subst (λ v. Steps lines ready ceiling left v (seen (c ∷ before)) y.monitor y.state (seen (calls ++ c ∷ before)) z.monitor z.state)
-      (stepped.same_board ∙ on-board) (run_steps lines ready ceiling left (c ∷ before) y (on_time lines ready ceiling left second time) onwards).steps in
+      subst (λ v. Steps means v (seen (c ∷ before)) y.monitor y.state (seen (calls ++ c ∷ before)) z.monitor z.state)
+      (stepped.same_board ∙ on-board) (run_steps means (c ∷ before) y (on_time means second time) onwards).steps in
       let at = split second later earlier e shows in
-      finish at (join lines ready ceiling left first.steps at.reaches) third
+      finish at (join means first.steps at.reaches) third
     where
       finish : (at : Split (seen before) x.monitor x.state (seen (c ∷ before)) y.monitor y.state e earlier)
-          → Steps lines ready ceiling left b unseen m₀ fresh at.hist at.monitor at.state
-          → Steps lines ready ceiling left b (seen (c ∷ before)) y.monitor y.state (seen (calls ++ c ∷ before)) z.monitor z.state
+          → Steps means b unseen m₀ fresh at.hist at.monitor at.state
+          → Steps means b (seen (c ∷ before)) y.monitor y.state (seen (calls ++ c ∷ before)) z.monitor z.state
           → IsFinished b (line_at b e.line).owner (seen (calls ++ c ∷ before))
           (length (accepted_for b (line_at b e.line).owner (earlier ++ (seen before).events))) (mark e.tag e.line e.at)
       finish at reaches onward-steps =
@@ -284,7 +284,7 @@ module _ {S : Type 0} (lines : S → ℕ) (ready : S → ℕ → ℕ → Bool) (
           let es = earlier ++ (seen before).events in
           let quiet : at.hist.clock ≤ (seen before).clock = omega (arith, no_later at.goes_on, shows_still c (seen before) later earlier e shows) in
           let point : at.hist ≡ up_to (seen before) es = still at.reaches quiet ∙ ap (up_to (seen before)) at.shown_before in
-          let here = reached lines ready ceiling left laws b ranges m₀ reaches in
+          let here = reached means laws b ranges m₀ reaches in
           let closed-here : NoneOpen b at.hist = subst (NoneOpen b) (sym point) closed in
           let no_grant : at.state.granted ≡ None = none_open b at.hist at.state here.kept here.opened closed-here in
           let past-then : AllBefore (seen before).clock (seen before).ticks = subst (λ (h : History). AllBefore h.clock h.ticks) point here.past in
@@ -292,18 +292,18 @@ module _ {S : Type 0} (lines : S → ℕ) (ready : S → ℕ → ℕ → Bool) (
           same_monitor at.reaches quiet past-then (subst (λ l. NoneOpen b (up_to (seen before) l)) (sym at.shown_before) closed) in
           let at-clock : e.at ≡ at.hist.clock = ap (λ (a : Accepted). a.at) at.is_event in
           let at-instant : e.at ≡ at.state.instant = at-clock ∙ here.fifo.on_time in
-          let ready-now : ready at.monitor e.line at.state.instant ≡ true =
-          ap (λ m. ready m e.line at.state.instant) monitor-same ∙ (ap (ready x.monitor e.line) (sym at-instant) ∙ ready-then) in
+          let ready-now : means.ready at.monitor e.line at.state.instant ≡ true =
+          ap (λ m. means.ready m e.line at.state.instant) monitor-same ∙ (ap (means.ready x.monitor e.line) (sym at-instant) ∙ ready-then) in
           let apart-now : serves b o at.state.instant ≡ false = ap (serves b o) (sym at-instant) ∙ apart in
           let permit-given = permitted_here at.state at.monitor e.line at.permit no_grant apart-now ready-now at.answered in
           let empty = none_waits o at.hist at.state here.fifo (subst (AllFinished b o) (sym point) all_done) in
           let way = sets_out at.hist at.state e.line e.tag at.known here.past empty in
           let steps_on =
-          join lines ready ceiling left
-          (subst (λ v. Steps lines ready ceiling left b (note_event at.hist e.line e.tag v) at.then (raised_state b at.state e.line e.tag v)
+          join means
+          (subst (λ v. Steps means b (note_event at.hist e.line e.tag v) at.then (raised_state b at.state e.line e.tag v)
           (seen (c ∷ before)) y.monitor y.state) permit-given at.goes_on) onward-steps in
           let n = length (finished_for b o at.hist.done) in
-          let ending = (onward lines ready ceiling left laws b ranges m₀ e.line at.hist.clock n steps_on
+          let ending = (onward means laws b ranges m₀ e.line at.hist.clock n steps_on
           (kept_event b ranges at.state e.line e.tag true at.known here.kept) (inl way)).1 in
           let enough = subst (λ t. full_cost b e.line ≤ count (other_tick_since t) (seen (calls ++ c ∷ before)).ticks) at-clock long in
           let less = prompt_end b e.line at.hist.clock n (seen (calls ++ c ∷ before)) z.state enough ending in
@@ -312,13 +312,13 @@ module _ {S : Type 0} (lines : S → ℕ) (ready : S → ℕ → ℕ → Bool) (
           ∙ (ap length (here.fifo.in_order o)
           ∙ (length-append (finished_for b o at.hist.done) (waiting (at.state.queue o)) ∙ (ap (λ (q : List Event). n + length (waiting q)) empty ∙ add-zero n))) in
           let whole =
-          join lines ready ceiling left
-          (join lines ready ceiling left (event e.line e.tag at.permit reaches at.known at.answered at.becomes) at.goes_on) onward-steps in
+          join means
+          (join means (event e.line e.tag at.permit reaches at.known at.answered at.becomes) at.goes_on) onward-steps in
           let more = more_events onward-steps in
           let listed : (seen (calls ++ c ∷ before)).events ≡ (more.0 ++ later) ++ e ∷ es =
           more.1 ∙ (ap (λ l. more.0 ++ l) shows ∙ sym (append_assoc more.0 later (e ∷ es))) in
-          among_finished b o (seen (calls ++ c ∷ before)) z.state (reached lines ready ceiling left laws b ranges m₀ whole).fifo (length (accepted_for b o es)) (mark e.tag e.line e.at)
+          among_finished b o (seen (calls ++ c ∷ before)) z.state (reached means laws b ranges m₀ whole).fifo (length (accepted_for b o es)) (mark e.tag e.line e.at)
           (ap (λ l. get_or (accepted_for b o l) (length (accepted_for b o es)) (mark 0 0 0)) listed ∙ nth_is (more.0 ++ later) es e) (omega arith)
 
-  pub laws_proved : Laws lines ready ceiling left b m₀
+  pub laws_proved : Laws means b m₀
   laws_proved = record { loss = loss_stands; response = response_stands; promptness = prompt_stands }

@@ -14,6 +14,7 @@ use Rattle.model.specs.Tick.{State, Grant, after, ended_in}
 use Rattle.model.specs.Tape.{tape}
 use Rattle.model.specs.Core.{Core, core, raise_fault, in_foreign_slot, asks, permits, told, raised_state, Becomes, Taken, RaisedBy, Raised, noted, Offered, StrobedBelow, Written, Runs, AdvancedBy}
 use Rattle.model.specs.Once.{AdvancedOnce, RaisedOnce, StrobedOnce, CallsOnce}
+use Rattle.model.specs.Monitor.{Meaning}
 
 -- Advancing.
 
@@ -51,16 +52,16 @@ module _ {S : Type 0} where
 
 -- Raising, from cores that differ at most in a monitor that cannot be asked.
 
-module _ {S : Type 0} (lines : S → ℕ) (ready : S → ℕ → ℕ → Bool) (ceiling : S → ℕ → ℕ → ℕ) (left : S → ℕ → ℕ → ℕ → ℕ) where
+module _ {S : Type 0} (means : Meaning S) where
   pub record Alike (x y : Core S) : Type 0 where
     pub boards : x.board ≡ y.board
     pub states : x.state ≡ y.state
     pub monitors : x.state.granted ≡ None → x.monitor ≡ y.monitor
 
-  alike_permits : (x y : Core S) (k : ℕ) → Alike x y → permits lines ready ceiling left x k ≡ permits lines ready ceiling left y k
+  alike_permits : (x y : Core S) (k : ℕ) → Alike x y → permits means x k ≡ permits means y k
   alike_permits x y k a =
-      ap (λ c. asks c x.state k && ready x.monitor k x.state.instant) a.boards
-      ∙ (ap (λ s. asks y.board s k && ready x.monitor k s.instant) a.states
+      ap (λ c. asks c x.state k && means.ready x.monitor k x.state.instant) a.boards
+      ∙ (ap (λ s. asks y.board s k && means.ready x.monitor k s.instant) a.states
       ∙ by y.state.granted refl (λ none. a.monitors (ap (λ (s : State). s.granted) a.states ∙ none)))
     where
       never : (u v : Bool) → ((u && not true) && v) ≡ false
@@ -68,12 +69,12 @@ module _ {S : Type 0} (lines : S → ℕ) (ready : S → ℕ → ℕ → Bool) (
       never false v = refl
 
       by : (g : Option Grant) → y.state.granted ≡ g → (y.state.granted ≡ None → x.monitor ≡ y.monitor)
-          → (asks y.board y.state k && ready x.monitor k y.state.instant) ≡ (asks y.board y.state k && ready y.monitor k y.state.instant)
-      by None is same = ap (λ m. asks y.board y.state k && ready m k y.state.instant) (same is)
+          → (asks y.board y.state k && means.ready x.monitor k y.state.instant) ≡ (asks y.board y.state k && means.ready y.monitor k y.state.instant)
+      by None is same = ap (λ m. asks y.board y.state k && means.ready m k y.state.instant) (same is)
       by (Some g) is same =
           let u = in_foreign_slot y.board y.state k in
-          let v = ready x.monitor k y.state.instant in
-          let w = ready y.monitor k y.state.instant in
+          let v = means.ready x.monitor k y.state.instant in
+          let w = means.ready y.monitor k y.state.instant in
           ap (λ o. (u && not (is_some o)) && v) is ∙ (never u v ∙ sym (ap (λ o. (u && not (is_some o)) && w) is ∙ never u w))
 
   -- what two raises of one line from alike cores come to
@@ -82,10 +83,10 @@ module _ {S : Type 0} (lines : S → ℕ) (ready : S → ℕ → ℕ → Bool) (
     waits : q ≡ Ok says_queued → r ≡ Ok says_queued → z.board ≡ w.board → z.state ≡ w.state → z.state.granted ≡ x.state.granted
         → z.monitor ≡ x.monitor → w.monitor ≡ y.monitor → Outcome x y k q r z w
     granted : (g : Grant) → q ≡ Ok says_permitted → r ≡ Ok says_permitted → z.board ≡ w.board → z.state ≡ w.state → z.state.granted ≡ Some g
-        → permits lines ready ceiling left x k ≡ true → Outcome x y k q r z w
+        → permits means x k ≡ true → Outcome x y k q r z w
 
-  taken_outcome : (x y : Core S) (k tag : ℕ) (q r : Result Answer Refusal) (z w : Core S) → Alike x y → (permit : Bool) → permits lines ready ceiling left x k ≡ permit
-      → Taken lines ready ceiling left x k tag q z → Taken lines ready ceiling left y k tag r w → Outcome x y k q r z w
+  taken_outcome : (x y : Core S) (k tag : ℕ) (q r : Result Answer Refusal) (z w : Core S) → Alike x y → (permit : Bool) → permits means x k ≡ permit
+      → Taken means x k tag q z → Taken means y k tag r w → Outcome x y k q r z w
   taken_outcome x y k tag q r z w a permit is t u = by permit is (sym (alike_permits x y k a) ∙ is)
     where
       boards : z.board ≡ w.board
@@ -95,37 +96,37 @@ module _ {S : Type 0} (lines : S → ℕ) (ready : S → ℕ → ℕ → Bool) (
       states =
           t.state_after
           ∙ (ap (λ p. raised_state x.board x.state k tag p) (alike_permits x y k a)
-          ∙ (ap (λ c. raised_state c x.state k tag (permits lines ready ceiling left y k)) a.boards
-          ∙ (ap (λ s. raised_state y.board s k tag (permits lines ready ceiling left y k)) a.states ∙ sym u.state_after)))
+          ∙ (ap (λ c. raised_state c x.state k tag (permits means y k)) a.boards
+          ∙ (ap (λ s. raised_state y.board s k tag (permits means y k)) a.states ∙ sym u.state_after)))
 
-      by : (p : Bool) → permits lines ready ceiling left x k ≡ p → permits lines ready ceiling left y k ≡ p → Outcome x y k q r z w
+      by : (p : Bool) → permits means x k ≡ p → permits means y k ≡ p → Outcome x y k q r z w
       by true px py =
           granted _ (t.answered ∙ ap (λ p. Ok (told p)) px) (u.answered ∙ ap (λ p. Ok (told p)) py) boards states
           (ap (λ (s : State). s.granted) t.state_after ∙ ap (λ p. (raised_state x.board x.state k tag p).granted) px) px
       by false px py =
           waits (t.answered ∙ ap (λ p. Ok (told p)) px) (u.answered ∙ ap (λ p. Ok (told p)) py) boards states
           (ap (λ (s : State). s.granted) t.state_after ∙ ap (λ p. (raised_state x.board x.state k tag p).granted) px)
-          (subst (λ p. Becomes lines ready ceiling left p x.monitor k x.state.instant z.monitor) px t.monitor_after)
-          (subst (λ p. Becomes lines ready ceiling left p y.monitor k y.state.instant w.monitor) py u.monitor_after)
+          (subst (λ p. Becomes means p x.monitor k x.state.instant z.monitor) px t.monitor_after)
+          (subst (λ p. Becomes means p y.monitor k y.state.instant w.monitor) py u.monitor_after)
 
   raise_outcome : (x y : Core S) (mask k tag : ℕ) (q r : Result Answer Refusal) (z w : Core S) → Alike x y
-      → Raised lines ready ceiling left x mask k tag q z → Raised lines ready ceiling left y mask k tag r w → Outcome x y k q r z w
+      → Raised means x mask k tag q z → Raised means y mask k tag r w → Outcome x y k q r z w
   raise_outcome x y mask k tag q r z w a t u =
       by (raise_fault x.board x.state mask k) t
-      (subst (λ f. RaisedBy lines ready ceiling left f y k tag r w)
+      (subst (λ f. RaisedBy means f y k tag r w)
       (ap (λ c. raise_fault c y.state mask k) (sym a.boards) ∙ ap (λ s. raise_fault x.board s mask k) (sym a.states)) u)
     where
-      by : (f : Option Refusal) → RaisedBy lines ready ceiling left f x k tag q z → RaisedBy lines ready ceiling left f y k tag r w → Outcome x y k q r z w
+      by : (f : Option Refusal) → RaisedBy means f x k tag q z → RaisedBy means f y k tag r w → Outcome x y k q r z w
       by (Some f) t u = refused f t.0 u.0 t.1 u.1
-      by None t u = taken_outcome x y k tag q r z w a (permits lines ready ceiling left x k) refl t u
+      by None t u = taken_outcome x y k tag q r z w a (permits means x k) refl t u
 
   same_core : (x : Core S) → Alike x x
   same_core x = record { boards = refl; states = refl; monitors = λ _. refl }
 
-  raised_once : RaisedOnce S lines ready ceiling left
+  raised_once : RaisedOnce S means
   raised_once x mask k tag q r y z t u = by (raise_outcome x x mask k tag q r y z (same_core x) t u)
     where
-      by : Outcome x x k q r y z → (q ≡ r) × (y.board ≡ z.board) × (y.state ≡ z.state) × (permits lines ready ceiling left x k ≡ false → y.monitor ≡ z.monitor)
+      by : Outcome x x k q r y z → (q ≡ r) × (y.board ≡ z.board) × (y.state ≡ z.state) × (permits means x k ≡ false → y.monitor ≡ z.monitor)
       by (refused f e e' i j) =
           let same = i ∙ sym j in
           (e ∙ sym e', ap (λ (c : Core S). c.board) same, ap (λ (c : Core S). c.state) same, λ _. ap (λ (c : Core S). c.monitor) same)
@@ -139,7 +140,7 @@ module _ {S : Type 0} (lines : S → ℕ) (ready : S → ℕ → ℕ → Bool) (
     pub unpermitted : v.1 ≡ 0 → y.monitor ≡ z.monitor
 
   same_offer : (set : Bool) (mask tag k : ℕ) (v w v' w' : ℕ × ℕ) (y z y' z' : Core S) → SameStrobe v w y z
-      → Offered lines ready ceiling left set mask tag k y v v' y' → Offered lines ready ceiling left set mask tag k z w w' z' → SameStrobe v' w' y' z'
+      → Offered means set mask tag k y v v' y' → Offered means set mask tag k z w w' z' → SameStrobe v' w' y' z'
   same_offer false mask tag k v w v' w' y z y' z' s o p =
       let ys = o.1 in
       let zs = p.1 in
@@ -149,11 +150,11 @@ module _ {S : Type 0} (lines : S → ℕ) (ready : S → ℕ → ℕ → Bool) (
     where
       noted_as : (a : Result Answer Refusal) → o.0 ≡ a → p.0 ≡ a → v' ≡ w'
       noted_as a e f =
-          o.2 ∙ (ap (λ x. noted lines ready ceiling left k x v) e ∙ (ap (noted lines ready ceiling left k a) s.words ∙ sym (p.2 ∙ ap (λ x. noted lines ready ceiling left k x w) f)))
+          o.2 ∙ (ap (λ x. noted means k x v) e ∙ (ap (noted means k a) s.words ∙ sym (p.2 ∙ ap (λ x. noted means k x w) f)))
 
       by : Outcome y z k o.0 p.0 y' z' → SameStrobe v' w' y' z'
       by (refused f e e' i j) =
-          let kept : v' ≡ v = o.2 ∙ ap (λ x. noted lines ready ceiling left k x v) e in
+          let kept : v' ≡ v = o.2 ∙ ap (λ x. noted means k x v) e in
           record {
             words = noted_as (Err f) e e';
             alike = subst (λ c. Alike c z') (sym i) (subst (Alike y) (sym j) s.alike);
@@ -161,14 +162,14 @@ module _ {S : Type 0} (lines : S → ℕ) (ready : S → ℕ → ℕ → Bool) (
                 λ none. ap (λ (c : Core S). c.monitor) i ∙ (s.unpermitted (ap (λ (x : ℕ × ℕ). x.1) (sym kept) ∙ none) ∙ sym (ap (λ (c : Core S). c.monitor) j));
           }
       by (waits e e' bs ss g i j) =
-          let kept : v' ≡ (v.0 + 2 ^ k, v.1) = o.2 ∙ ap (λ x. noted lines ready ceiling left k x v) e in
+          let kept : v' ≡ (v.0 + 2 ^ k, v.1) = o.2 ∙ ap (λ x. noted means k x v) e in
           record {
             words = noted_as (Ok says_queued) e e';
             alike = record { boards = bs; states = ss; monitors = λ none. i ∙ (s.alike.monitors (sym g ∙ none) ∙ sym j) };
             unpermitted = λ none. i ∙ (s.unpermitted (ap (λ (x : ℕ × ℕ). x.1) (sym kept) ∙ none) ∙ sym j);
           }
       by (granted g e e' bs ss o' q) =
-          let kept : v' ≡ (v.0 + 2 ^ k, v.1 + 2 ^ k) = o.2 ∙ ap (λ x. noted lines ready ceiling left k x v) e in
+          let kept : v' ≡ (v.0 + 2 ^ k, v.1 + 2 ^ k) = o.2 ∙ ap (λ x. noted means k x v) e in
           record {
             words = noted_as (Ok says_permitted) e e';
             alike = record { boards = bs; states = ss; monitors = λ none. let z : ◌≡◌ {A = ℕ} 0 1 = cc (o', none) in absurd (omega arith) };
@@ -176,7 +177,7 @@ module _ {S : Type 0} (lines : S → ℕ) (ready : S → ℕ → ℕ → Bool) (
           }
 
   strobed_below : (n mask word tag : ℕ) (x : Core S) (v w : ℕ × ℕ) (y z : Core S)
-      → StrobedBelow lines ready ceiling left n mask word tag x v y → StrobedBelow lines ready ceiling left n mask word tag x w z → SameStrobe v w y z
+      → StrobedBelow means n mask word tag x v y → StrobedBelow means n mask word tag x w z → SameStrobe v w y z
   unfolding StrobedBelow
   strobed_below zero mask word tag x v w y z s t =
       let same = s.1 ∙ sym t.1 in
@@ -188,10 +189,10 @@ module _ {S : Type 0} (lines : S → ℕ) (ready : S → ℕ → ℕ → Bool) (
   strobed_below (suc k) mask word tag x v w y z s t =
       same_offer (is_set word k) mask tag k s.1 t.1 v w s.0 t.0 y z (strobed_below k mask word tag x s.1 t.1 s.0 t.0 s.2 t.2) s.3 t.3
 
-  strobed_once : StrobedOnce S lines ready ceiling left
+  strobed_once : StrobedOnce S means
   strobed_once x mask word tag v w y z s t =
       let same = strobed_below 16 mask word tag x v w y z s t in
       (same.words, same.alike.boards, same.alike.states, same.unpermitted)
 
-  pub calls_once : CallsOnce S lines ready ceiling left
+  pub calls_once : CallsOnce S means
   calls_once = record { raised = raised_once; strobed = strobed_once; advanced = advanced_once }

@@ -1,7 +1,7 @@
 -- Every point that elementary steps reach keeps the invariants.
 use Rattle.std.proofs.Common.{◌≡◌, ℕ, suc, ◌≤◌, Bool, true, false, not, ◌&&◌, ◌∷◌, is_some, Some, None, Option, sym, refl, ap, ◌∙◌, subst, le_trans, arith}
 use Rattle.model.specs.Board.{Layout, InRange}
-use Rattle.model.specs.Monitor.{MonitorLaws}
+use Rattle.model.specs.Monitor.{Meaning, Lawful}
 use Rattle.model.specs.Demand.{demand}
 use Rattle.model.specs.Tick.{State, Grant, fresh, tick}
 use Rattle.model.specs.Core.{asks, in_foreign_slot}
@@ -32,22 +32,22 @@ only_closed b s k permit r is told = by s.granted refl
         let z : true ≡ false = sym told ∙ (is ∙ no-ask) in
         absurd (grind arith)
 
-module _ {S : Type 0} (lines : S → ℕ) (ready : S → ℕ → ℕ → Bool) (ceiling : S → ℕ → ℕ → ℕ) (left : S → ℕ → ℕ → ℕ → ℕ)
-    (laws : (m : S) → MonitorLaws (lines m) (ready m) (ceiling m) (left m)) (b : Layout) (ranges : InRange b) (m₀ : S) where
+module _ {S : Type 0} (means : Meaning S)
+    (laws : Lawful means) (b : Layout) (ranges : InRange b) (m₀ : S) where
   -- what holds at every point from a new core on
   pub record Reached (h : History) (m : S) (s : State) : Type 0 where
     pub kept : Kept b s
     pub fifo : Fifo b h s
-    pub permits : PermitsBounded lines ready ceiling left laws m₀ h.events m s.instant
+    pub permits : PermitsBounded means laws m₀ h.events m s.instant
     pub opened : OpenSeen b h s.granted
     pub past : AllBefore h.clock h.ticks
 
-  pub reached : {h : History} {m : S} {s : State} → Steps lines ready ceiling left b unseen m₀ fresh h m s → Reached h m s
+  pub reached : {h : History} {m : S} {s : State} → Steps means b unseen m₀ fresh h m s → Reached h m s
   reached none =
       record {
         kept = kept_fresh b;
         fifo = fifo_fresh b;
-        permits = permits_fresh lines ready ceiling left laws m₀;
+        permits = permits_fresh means laws m₀;
         opened = tt;
         past = tt;
       }
@@ -57,8 +57,8 @@ module _ {S : Type 0} (lines : S → ℕ) (ready : S → ℕ → ℕ → Bool) (
         kept = kept_event b ranges s k tag permit known at.kept;
         fifo = fifo_event b h s k tag permit at.fifo;
         permits =
-            subst (λ t. PermitsBounded lines ready ceiling left laws m₀ (accepted k tag t permit ∷ h.events) n s.instant) (sym at.fifo.on_time)
-            (permits_event lines ready ceiling left laws m₀ h.events m n s.instant k tag permit becomes at.permits);
+            subst (λ t. PermitsBounded means laws m₀ (accepted k tag t permit ∷ h.events) n s.instant) (sym at.fifo.on_time)
+            (permits_event means laws m₀ h.events m n s.instant k tag permit becomes at.permits);
         opened = opened_event b h s k tag permit at.past at.opened;
         past = at.past;
       }
@@ -73,35 +73,35 @@ module _ {S : Type 0} (lines : S → ℕ) (ready : S → ℕ → ℕ → Bool) (
         past = (omega arith, before_later h.clock (suc h.clock) h.ticks (omega arith) at.past);
       }
     where
-      later_permits : (h : History) (m : S) (s : State) → PermitsBounded lines ready ceiling left laws m₀ h.events m s.instant → suc h.clock ≡ (tick b s).next.instant
-          → h.clock ≡ s.instant → PermitsBounded lines ready ceiling left laws m₀ h.events m (tick b s).next.instant
+      later_permits : (h : History) (m : S) (s : State) → PermitsBounded means laws m₀ h.events m s.instant → suc h.clock ≡ (tick b s).next.instant
+          → h.clock ≡ s.instant → PermitsBounded means laws m₀ h.events m (tick b s).next.instant
       later_permits h m s p next now =
-          subst (PermitsBounded lines ready ceiling left laws m₀ h.events m) (sym (ap suc now) ∙ next) (permits_tick lines ready ceiling left laws m₀ h.events m s.instant p)
+          subst (PermitsBounded means laws m₀ h.events m) (sym (ap suc now) ∙ next) (permits_tick means laws m₀ h.events m s.instant p)
 
-  pub losses : (p u w : ℕ) {h : History} {m : S} {s : State} → Steps lines ready ceiling left b unseen m₀ fresh h m s → Losing b p u w h s
+  pub losses : (p u w : ℕ) {h : History} {m : S} {s : State} → Steps means b unseen m₀ fresh h m s → Losing b p u w h s
   losses p u w none = losing_fresh b p u w
   losses p u w (event {h} {m} {s} k tag permit steps known is becomes) =
-      losing_event b p u w h s k tag permit known (only_closed b s k permit (ready m k s.instant) is) (losses p u w steps)
+      losing_event b p u w h s k tag permit known (only_closed b s k permit (means.ready m k s.instant) is) (losses p u w steps)
   losses p u w (ticked {h} {m} {s} steps) = losing_tick b p u w h s (rule_of b s (reached steps).kept) (losses p u w steps)
 
-  pub busy : (most : ℕ → ℕ → ℕ) (p x : ℕ) (some : 1 ≤ x) (meets : demand b (ceiling m₀) most p x ≤ x) {h : History} {m : S} {s : State}
-      → Steps lines ready ceiling left b unseen m₀ fresh h m s → KeepsCurve most h → Busy b ranges (ceiling m₀) most p x some meets h s
-  busy most p x some meets none kept = busy_fresh b ranges (ceiling m₀) most p x some meets
+  pub busy : (most : ℕ → ℕ → ℕ) (p x : ℕ) (some : 1 ≤ x) (meets : demand b (means.ceiling m₀) most p x ≤ x) {h : History} {m : S} {s : State}
+      → Steps means b unseen m₀ fresh h m s → KeepsCurve most h → Busy b ranges (means.ceiling m₀) most p x some meets h s
+  busy most p x some meets none kept = busy_fresh b ranges (means.ceiling m₀) most p x some meets
   busy most p x some meets (event {h} {m} {s} k tag permit steps known is becomes) kept =
-      busy_event b ranges (ceiling m₀) most p x some meets h s k tag permit known (only_closed b s k permit (ready m k s.instant) is) (reached steps).fifo.on_time
+      busy_event b ranges (means.ceiling m₀) most p x some meets h s k tag permit known (only_closed b s k permit (means.ready m k s.instant) is) (reached steps).fifo.on_time
       (busy most p x some meets steps (λ j a w. le_trans (count_more (of_line j a w) (accepted k tag h.clock permit) h.events) (kept j a w)))
   busy most p x some meets (ticked {h} {m} {s} steps) kept =
       let at = reached steps in
       let rule = rule_of b s at.kept in
-      busy_tick b ranges (ceiling m₀) most p x some meets h s rule (kept_tick b s rule at.kept) at.fifo.on_time (λ k since. kept k since x)
+      busy_tick b ranges (means.ceiling m₀) most p x some meets h s rule (kept_tick b s rule at.kept) at.fifo.on_time (λ k since. kept k since x)
       (λ k since. omega (arith, at.permits k since x)) (busy most p x some meets steps kept)
 
-  pub onward : (k r n : ℕ) {h₁ : History} {m₁ : S} {s₁ : State} {h : History} {m : S} {s : State} → Steps lines ready ceiling left b h₁ m₁ s₁ h m s
+  pub onward : (k r n : ℕ) {h₁ : History} {m₁ : S} {s₁ : State} {h : History} {m : S} {s : State} → Steps means b h₁ m₁ s₁ h m s
       → Kept b s₁ → Prompted b k r n h₁ s₁ → Kept b s × Prompted b k r n h s
   onward k r n none keeps way = (keeps, way)
   onward k r n (event {h} {m} {s} j tag permit steps known is becomes) keeps way =
       let at = onward k r n steps keeps way in
-      (kept_event b ranges s j tag permit known at.0, way_event b k r n h s j tag permit (only_closed b s j permit (ready m j s.instant) is) at.1)
+      (kept_event b ranges s j tag permit known at.0, way_event b k r n h s j tag permit (only_closed b s j permit (means.ready m j s.instant) is) at.1)
   onward k r n (ticked {h} {m} {s} steps) keeps way =
       let at = onward k r n steps keeps way in
       let rule = rule_of b s at.0 in

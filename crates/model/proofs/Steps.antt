@@ -6,6 +6,7 @@ use Rattle.model.specs.Board.{Layout, line_at, owner_at}
 use Rattle.model.specs.Tick.{State, grant, Ticked, plain, serving, closing, tick}
 use Rattle.model.specs.Core.{asks, raised_state, Becomes}
 use Rattle.model.specs.Seen.{History, accepted, tape_tick, with_events, done_onto}
+use Rattle.model.specs.Monitor.{Meaning}
 
 -- what is seen of an accepted event, and of a tick
 abbrev pub note_event : History → ℕ → ℕ → Bool → History
@@ -20,12 +21,12 @@ note_tick h t =
       done = done_onto t.ended h.done;
     }
 
-module _ {S : Type 0} (lines : S → ℕ) (ready : S → ℕ → ℕ → Bool) (ceiling : S → ℕ → ℕ → ℕ) (left : S → ℕ → ℕ → ℕ → ℕ) (b : Layout) where
+module _ {S : Type 0} (means : Meaning S) (b : Layout) where
   -- the steps from one point, what was seen, the monitor and the state, to another
   pub data Steps (h₀ : History) (m₀ : S) (s₀ : State) : History → S → State → Type 0 where
     none : Steps h₀ m₀ s₀ h₀ m₀ s₀
     event : {h : History} {m : S} {s : State} (k tag : ℕ) (permit : Bool) {n : S} → Steps h₀ m₀ s₀ h m s
-        → k < length b.lines → permit ≡ (asks b s k && ready m k s.instant) → Becomes lines ready ceiling left permit m k s.instant n
+        → k < length b.lines → permit ≡ (asks b s k && means.ready m k s.instant) → Becomes means permit m k s.instant n
         → Steps h₀ m₀ s₀ (note_event h k tag permit) n (raised_state b s k tag permit)
     ticked : {h : History} {m : S} {s : State} → Steps h₀ m₀ s₀ h m s → Steps h₀ m₀ s₀ (note_tick h (tick b s)) m (tick b s).next
 

@@ -7,7 +7,8 @@ use Rattle.model.specs.declared.run.Kind.{Kind}
 use Rattle.model.specs.declared.run.Kind.TheVariants.{Top, Switch, Interposed, Bottom, Application}
 use Rattle.model.specs.declared.run.Span.{Span}
 use Rattle.model.specs.Board.{Layout, owner_at}
-use Rattle.model.specs.Tick.{State, Grant, Row, tick, by_rules, in_grant, in_slot, after, ended_in}
+use Rattle.model.specs.Tick.{State, Grant, tick, by_rules, in_grant, in_slot, after, ended_in}
+use Rattle.model.specs.declared.run.Row.{Row}
 use Rattle.model.specs.Tape.{kind_place, alike, longer, grown, span, tape}
 use Rattle.model.specs.Seen.{History, TapeTick, tape_tick, ticks_onto, row_of, spans_onto, done_onto}
 use Rattle.model.proofs.Steps.{note_tick}

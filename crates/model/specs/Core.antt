@@ -11,7 +11,7 @@ use Rattle.model.specs.declared.run.Ran.{Ran}
 use Rattle.model.specs.Limits.{end}
 use Rattle.model.specs.Board.{Layout, line_at, serves}
 use Rattle.model.specs.Bits.{is_set}
-use Rattle.model.specs.Monitor.{Permitted}
+use Rattle.model.specs.Monitor.{Permitted, Meaning}
 use Rattle.model.specs.Tick.{State, Grant, grant, fresh, put, after, ended_in}
 use Rattle.model.specs.Tape.{tape}
 
@@ -106,14 +106,14 @@ AdvancedBy false x n spans events r y spans' events' =
 abbrev pub Advanced : {S : Type 0} → Core S → ℕ → List Span → List Finished → Result Ran Refusal → Core S → List Span → List Finished → Type 0
 Advanced x n spans events r y spans' events' = AdvancedBy (nat_le n (end - x.state.instant)) x n spans events r y spans' events'
 
-module _ {S : Type 0} (lines : S → ℕ) (ready : S → ℕ → ℕ → Bool) (ceiling : S → ℕ → ℕ → ℕ) (left : S → ℕ → ℕ → ℕ → ℕ) where
+module _ {S : Type 0} (means : Meaning S) where
   -- whether raising line k is permitted: the monitor is asked, and is ready
   abbrev pub permits : Core S → ℕ → Bool
-  permits x k = asks x.board x.state k && ready x.monitor k x.state.instant
+  permits x k = asks x.board x.state k && means.ready x.monitor k x.state.instant
 
   -- What the rules leave open: the monitor n that m becomes. After a yes, all that is known of any monitor's yes; else n is m.
   abbrev pub Becomes : Bool → S → ℕ → ℕ → S → Type 0
-  Becomes true m k t n = Permitted lines ready ceiling left m k t n
+  Becomes true m k t n = Permitted means m k t n
   Becomes false m k t n = n ≡ m
 
   -- an event of line k that no check refuses

@@ -2,7 +2,7 @@
 use Rattle.std.specs.Prelude.{◌≡◌, ℕ, zero, suc, ◌+◌, ◌*◌, ◌<◌, ◌≤◌, max, Bool, true, false, cond, not, ◌&&◌, List, ◌∷◌, ◌++◌, length, ◌==◌, nat_le, slice_index_or}
 use Rattle.model.specs.Counting.{sum_to}
 use Rattle.model.specs.Board.{Layout, InRange, foreign, full_cost, line_at, serves}
-use Rattle.model.specs.Monitor.{MonitorLaws}
+use Rattle.model.specs.Monitor.{Meaning, Lawful}
 use Rattle.model.specs.Curve.{CurveLaws}
 use Rattle.model.specs.Demand.{Bound}
 use Rattle.model.specs.Core.{Core, new_core}
@@ -61,18 +61,18 @@ AllFinished b p h =
 abbrev pub up_to : History → List Accepted → History
 up_to h es = record { clock = h.clock; events = es; ticks = h.ticks; done = h.done }
 
-module _ {S : Type 0} (lines : S → ℕ) (ready : S → ℕ → ℕ → Bool) (ceiling : S → ℕ → ℕ → ℕ) (left : S → ℕ → ℕ → ℕ → ℕ) where
+module _ {S : Type 0} (means : Meaning S) where
   -- Promptness: an event that a call accepts in a foreign slot, its monitor ready as the calls before left it, no grant open and
   -- every earlier event of its partition finished, is finished once its full cost in ticks other than top handling has run since
   abbrev pub Prompt : Layout → S → Type 0
   Prompt b m =
-      (before : List Call) (x : Core S) → Run lines ready ceiling left (new_core b m) before x
-      → (c : Call) (y : Core S) → Called lines ready ceiling left x c y
-      → (calls : List Call) (z : Core S) → Run lines ready ceiling left y calls z
+      (before : List Call) (x : Core S) → Run means (new_core b m) before x
+      → (c : Call) (y : Core S) → Called means x c y
+      → (calls : List Call) (z : Core S) → Run means y calls z
       → (later earlier : List Accepted) (e : Accepted)
       → (showing c (seen before)).events ≡ later ++ e ∷ (earlier ++ (seen before).events)
       → serves b (line_at b e.line).owner e.at ≡ false
-      → ready x.monitor e.line e.at ≡ true
+      → means.ready x.monitor e.line e.at ≡ true
       → NoneOpen b (up_to (seen before) (earlier ++ (seen before).events))
       → AllFinished b (line_at b e.line).owner (up_to (seen before) (earlier ++ (seen before).events))
       → full_cost b e.line ≤ count (other_tick_since e.at) (seen (calls ++ c ∷ before)).ticks
@@ -81,12 +81,11 @@ module _ {S : Type 0} (lines : S → ℕ) (ready : S → ℕ → ℕ → Bool) (
 
   -- the three laws, over every run from a new core with board b and monitor m
   pub record Laws (b : Layout) (m : S) : Type 0 where
-    pub loss : (calls : List Call) (x : Core S) → Run lines ready ceiling left (new_core b m) calls x → LossBounded b (ceiling m) (seen calls)
-    pub response : (calls : List Call) (x : Core S) → Run lines ready ceiling left (new_core b m) calls x → Responsive b (ceiling m) (seen calls)
+    pub loss : (calls : List Call) (x : Core S) → Run means (new_core b m) calls x → LossBounded b (means.ceiling m) (seen calls)
+    pub response : (calls : List Call) (x : Core S) → Run means (new_core b m) calls x → Responsive b (means.ceiling m) (seen calls)
     pub promptness : Prompt b m
 
 -- for every monitor of a type, known by its four members and their laws alone, and every board in range
 abbrev pub LawsStand : Type 0 → Type 0
 LawsStand S =
-    (lines : S → ℕ) (ready : S → ℕ → ℕ → Bool) (ceiling : S → ℕ → ℕ → ℕ) (left : S → ℕ → ℕ → ℕ → ℕ)
-    → ((m : S) → MonitorLaws (lines m) (ready m) (ceiling m) (left m)) → (b : Layout) → InRange b → (m : S) → Laws lines ready ceiling left b m
+    (means : Meaning S) → Lawful means → (b : Layout) → InRange b → (m : S) → Laws means b m

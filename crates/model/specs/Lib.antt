@@ -3,6 +3,7 @@ pub mod Counting
 pub mod Limits
 pub mod Calls
 pub mod Refusals
+pub mod Texts
 pub mod Board
 pub mod Monitor
 pub mod Curve

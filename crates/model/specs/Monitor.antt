@@ -21,17 +21,33 @@ pub record MonitorLaws (lines : ℕ) (ready : ℕ → ℕ → Bool) (ceiling : �
   pub past : (k t : ℕ) → end < t → ready k t ≡ false
   pub long : (k w : ℕ) → instants < w → ceiling k w ≡ ceiling k instants
 
-module _ {M : Type 0} (lines : M → ℕ) (ready : M → ℕ → ℕ → Bool) (ceiling : M → ℕ → ℕ → ℕ) (left : M → ℕ → ℕ → ℕ → ℕ) where
+-- what the monitors of a type mean: how many lines one has, and of line k whether it is ready at instant t, the ceiling in a window of w
+-- ticks, and the permits that it can still get at instants from a up to, not including, b
+pub record Meaning (M : Type 0) : Type 0 where
+  pub lines : M → ℕ
+  pub ready : M → ℕ → ℕ → Bool
+  pub ceiling : M → ℕ → ℕ → ℕ
+  pub left : M → ℕ → ℕ → ℕ → ℕ
+
+-- the meaning with these four parts
+abbrev pub meant : {M : Type 0} → (M → ℕ) → (M → ℕ → ℕ → Bool) → (M → ℕ → ℕ → ℕ) → (M → ℕ → ℕ → ℕ → ℕ) → Meaning M
+meant lines ready ceiling left = record { lines = lines; ready = ready; ceiling = ceiling; left = left }
+
+-- every monitor of a type has the laws
+abbrev pub Lawful : {M : Type 0} → Meaning M → Type 0
+Lawful {M = M} means = (m : M) → MonitorLaws (means.lines m) (means.ready m) (means.ceiling m) (means.left m)
+
+module _ {M : Type 0} (means : Meaning M) where
   -- all that is known of the monitor n that m becomes by permitting line k at instant t; each kind says more of its own
   pub record Permitted (m : M) (k t : ℕ) (n : M) : Type 0 where
-    pub same_lines : lines n ≡ lines m
-    pub same_ceilings : (j w : ℕ) → ceiling n j w ≡ ceiling m j w
-    pub not_before : (s : ℕ) → s < t → ready n k s ≡ false
-    pub falls : (j a b : ℕ) → left n j a b ≤ left m j a b
-    pub spends : (a b : ℕ) → a ≤ t → t < b → 1 + left n k t b ≤ left m k a b
+    pub same_lines : means.lines n ≡ means.lines m
+    pub same_ceilings : (j w : ℕ) → means.ceiling n j w ≡ means.ceiling m j w
+    pub not_before : (s : ℕ) → s < t → means.ready n k s ≡ false
+    pub falls : (j a b : ℕ) → means.left n j a b ≤ means.left m j a b
+    pub spends : (a b : ℕ) → a ≤ t → t < b → 1 + means.left n k t b ≤ means.left m k a b
 
   -- asked for line k at instant t, the monitor m answers r and becomes n
   pub record Asked (m : M) (k t : ℕ) (r : Bool) (n : M) : Type 0 where
-    pub answer : r ≡ ready m k t
+    pub answer : r ≡ means.ready m k t
     pub on_no : r ≡ false → n ≡ m
     pub on_yes : r ≡ true → Permitted m k t n

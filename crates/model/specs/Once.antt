@@ -1,11 +1,12 @@
 -- One answer: two outcomes of one call from the same core with the same arguments are equal in all that the rules fix.
-use Rattle.std.specs.Prelude.{◌≡◌, ℕ, Bool, false, List, Result}
+use Rattle.std.specs.Prelude.{◌≡◌, ℕ, false, List, Result}
 use Rattle.model.specs.declared.refusal.Refusal.{Refusal}
 use Rattle.model.specs.declared.run.Answer.{Answer}
 use Rattle.model.specs.declared.run.Span.{Span}
 use Rattle.model.specs.declared.run.Finished.{Finished}
 use Rattle.model.specs.declared.run.Ran.{Ran}
 use Rattle.model.specs.Core.{Core, permits, Raised, Strobed, Advanced}
+use Rattle.model.specs.Monitor.{Meaning}
 
 module _ (S : Type 0) where
   -- an advance: the answer, the core, and every place of both buffers
@@ -14,19 +15,19 @@ module _ (S : Type 0) where
       (x : Core S) (n : ℕ) (spans : List Span) (events : List Finished) (q r : Result Ran Refusal) (y z : Core S) (ys zs : List Span) (fs gs : List Finished)
       → Advanced x n spans events q y ys fs → Advanced x n spans events r z zs gs → (q ≡ r) × (y ≡ z) × (ys ≡ zs) × (fs ≡ gs)
 
-  module _ (lines : S → ℕ) (ready : S → ℕ → ℕ → Bool) (ceiling : S → ℕ → ℕ → ℕ) (left : S → ℕ → ℕ → ℕ → ℕ) where
+  module _ (means : Meaning S) where
     -- a raise: the answer, the board, the state, and the monitor unless it said yes
     abbrev pub RaisedOnce : Type 0
     RaisedOnce =
         (x : Core S) (mask k tag : ℕ) (q r : Result Answer Refusal) (y z : Core S)
-        → Raised lines ready ceiling left x mask k tag q y → Raised lines ready ceiling left x mask k tag r z
-        → (q ≡ r) × (y.board ≡ z.board) × (y.state ≡ z.state) × (permits lines ready ceiling left x k ≡ false → y.monitor ≡ z.monitor)
+        → Raised means x mask k tag q y → Raised means x mask k tag r z
+        → (q ≡ r) × (y.board ≡ z.board) × (y.state ≡ z.state) × (permits means x k ≡ false → y.monitor ≡ z.monitor)
 
     -- a strobe: both words, the board, the state, and the monitor unless a line was permitted
     abbrev pub StrobedOnce : Type 0
     StrobedOnce =
         (x : Core S) (mask word tag : ℕ) (v w : ℕ × ℕ) (y z : Core S)
-        → Strobed lines ready ceiling left x mask word tag v y → Strobed lines ready ceiling left x mask word tag w z
+        → Strobed means x mask word tag v y → Strobed means x mask word tag w z
         → (v ≡ w) × (y.board ≡ z.board) × (y.state ≡ z.state) × (v.1 ≡ 0 → y.monitor ≡ z.monitor)
 
     pub record CallsOnce : Type 0 where
@@ -36,4 +37,4 @@ module _ (S : Type 0) where
 
 abbrev pub OneAnswer : Type 0 → Type 0
 OneAnswer S =
-    (lines : S → ℕ) (ready : S → ℕ → ℕ → Bool) (ceiling : S → ℕ → ℕ → ℕ) (left : S → ℕ → ℕ → ℕ → ℕ) → CallsOnce S lines ready ceiling left
+    (means : Meaning S) → CallsOnce S means

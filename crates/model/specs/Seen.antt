@@ -8,7 +8,7 @@ use Rattle.model.specs.declared.run.Span.{Span}
 use Rattle.model.specs.declared.run.Finished.{Finished}
 use Rattle.model.specs.Bits.{is_set}
 use Rattle.model.specs.Board.{Layout, line_at}
-use Rattle.model.specs.Tick.{Row}
+use Rattle.model.specs.declared.run.Row.{Row}
 use Rattle.model.specs.Run.{Call, raise, strobe, advance}
 
 -- an accepted event: its line, tag, the instant at which it was raised, and whether a permit was told

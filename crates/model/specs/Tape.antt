@@ -4,7 +4,8 @@ use Rattle.model.specs.declared.run.Kind.{Kind}
 use Rattle.model.specs.declared.run.Kind.TheVariants.{Top, Switch, Interposed, Bottom, Application}
 use Rattle.model.specs.declared.run.Span.{Span}
 use Rattle.model.specs.Board.{Layout}
-use Rattle.model.specs.Tick.{State, Row, tick, after}
+use Rattle.model.specs.Tick.{State, tick, after}
+use Rattle.model.specs.declared.run.Row.{Row}
 
 abbrev pub kind_place : Kind → ℕ
 kind_place Top = 0

@@ -3,6 +3,7 @@ use Rattle.std.specs.Prelude.{ℕ, zero, suc, ◌+◌, ◌-◌, cond, List, [], 
 use Rattle.model.specs.declared.run.Event.{Event}
 use Rattle.model.specs.declared.run.Finished.{Finished}
 use Rattle.model.specs.declared.run.Kind.{Kind}
+use Rattle.model.specs.declared.run.Row.{Row}
 use Rattle.model.specs.declared.run.Kind.TheVariants.{Top, Switch, Interposed, Bottom, Application}
 use Rattle.model.specs.Board.{Layout, line_at, owner_at}
 
@@ -30,12 +31,6 @@ fresh = record { instant = 0; owed = 0; granted = None; queue = λ p. [] }
 -- the queues with that of partition p replaced
 abbrev pub put : (ℕ → List Event) → ℕ → List Event → ℕ → List Event
 put queue p q j = cond (j == p) q (queue j)
-
--- one tick: what it was spent on, for whom, in whose slot
-pub record Row : Type 0 where
-  pub kind : Kind
-  pub who : ℕ
-  pub owner : ℕ
 
 -- what a tick does: its row, the event that it finishes, if any, and the state after it
 pub record Ticked : Type 0 where

@@ -72,14 +72,14 @@ impl Refusal {
             Refusal::OverheadRange(Overhead::Check) => 0,
             Refusal::OverheadRange(Overhead::Reschedule) => 1,
             Refusal::OverheadRange(Overhead::Switch) => 2,
-            Refusal::SlotRange(place) => *place,
-            Refusal::LineRange(place) => *place,
-            Refusal::Setting(place) => *place,
-            Refusal::NoSuch(place) => *place,
-            Refusal::Masked(place) => *place,
-            Refusal::QueueFull(place) => *place,
-            Refusal::PastEnd(place) => *place,
-            Refusal::NoBound(place) => *place,
+            Refusal::SlotRange(place)
+            | Refusal::LineRange(place)
+            | Refusal::Setting(place)
+            | Refusal::NoSuch(place)
+            | Refusal::Masked(place)
+            | Refusal::QueueFull(place)
+            | Refusal::PastEnd(place)
+            | Refusal::NoBound(place) => *place,
         }
     }
 }

@@ -2,7 +2,7 @@
 use Rattle.std.proofs.Common.{◌≡◌, ℕ, ◌+◌, ◌-◌, ◌<◌, ◌≤◌, min, Bool, true, false, sym, refl, arith}
 use Rattle.std.proofs.lemmas.Bool.Decides.{nat_tests}
 use Rattle.model.specs.Limits.{instants, largest}
-use Rattle.model.specs.Monitor.{MonitorLaws, Permitted, Asked}
+use Rattle.model.specs.Monitor.{MonitorLaws, Meaning, meant, Permitted, Asked}
 use Rattle.monitor.specs.OneLine.{one_ready, one_ceiling, one_left}
 
 -- the laws of one line, by its ceiling and what is left of it
@@ -39,11 +39,15 @@ module _ {S : Type 0} (rule : S → ℕ → Bool) (most : S → ℕ → ℕ) (re
     pub spends : (a e : ℕ) → a ≤ t → t < e → 1 + rest n t e ≤ rest s a e
 
   module _ {M : Type 0} (view : M → S) where
+    -- what monitors of one line mean that hold such a state
+    abbrev pub line_meaning : Meaning M
+    line_meaning = meant (λ m. 1) (λ m. one_ready (rule (view m))) (λ m. one_ceiling (most (view m))) (λ m. one_left (rest (view m)))
+
     abbrev pub LinePermitted : M → ℕ → ℕ → M → Type 0
-    LinePermitted = Permitted (λ m. 1) (λ m. one_ready (rule (view m))) (λ m. one_ceiling (most (view m))) (λ m. one_left (rest (view m)))
+    LinePermitted = Permitted line_meaning
 
     abbrev pub LineAsked : M → ℕ → ℕ → Bool → M → Type 0
-    LineAsked = Asked (λ m. 1) (λ m. one_ready (rule (view m))) (λ m. one_ceiling (most (view m))) (λ m. one_left (rest (view m)))
+    LineAsked = Asked line_meaning
 
     one_permitted :
         (m : M) (k t : ℕ) (n : M) → one_ready (rule (view m)) k t ≡ true → Spent (view m) t (view n) → LinePermitted m k t n

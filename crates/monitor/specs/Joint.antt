@@ -1,6 +1,6 @@
 -- A joint: the first monitor as it is, limited by line 0 of the second.
 use Rattle.std.specs.Prelude.{◌≡◌, ℕ, min, Bool, true, ◌&&◌}
-use Rattle.model.specs.Monitor.{Asked}
+use Rattle.model.specs.Monitor.{Asked, Meaning}
 use Rattle.monitor.specs.declared.joint.Joint.{Joint}
 
 abbrev pub limited_ready : (ℕ → ℕ → Bool) → (ℕ → ℕ → Bool) → ℕ → ℕ → Bool
@@ -29,10 +29,8 @@ module _ {A B : Type 0} where
   abbrev pub joint_left : (A → ℕ → ℕ → ℕ → ℕ) → (B → ℕ → ℕ → ℕ → ℕ) → Joint A B → ℕ → ℕ → ℕ → ℕ
   joint_left f g m = limited_left (f m.first) (g m.second)
 
-module _
-    {A B : Type 0} (lines : A → ℕ) (ready : A → ℕ → ℕ → Bool) (ceiling : A → ℕ → ℕ → ℕ) (left : A → ℕ → ℕ → ℕ → ℕ)
-    (lines' : B → ℕ) (ready' : B → ℕ → ℕ → Bool) (ceiling' : B → ℕ → ℕ → ℕ) (left' : B → ℕ → ℕ → ℕ → ℕ) where
+module _ {A B : Type 0} (means : Meaning A) (means' : Meaning B) where
   -- on a yes both were asked, the second on line 0, and both said yes
   abbrev pub BothAsked : Joint A B → ℕ → ℕ → Bool → Joint A B → Type 0
   BothAsked m k t r n =
-      r ≡ true → Asked lines ready ceiling left m.first k t true n.first × Asked lines' ready' ceiling' left' m.second 0 t true n.second
+      r ≡ true → Asked means m.first k t true n.first × Asked means' m.second 0 t true n.second

@@ -1,6 +1,6 @@
 -- A pair: the lines of the first, then those of the second, up to line 15.
 use Rattle.std.specs.Prelude.{◌≡◌, ℕ, ◌+◌, ◌-◌, ◌<◌, ◌≤◌, min, Bool, true, false, cond, nat_lt}
-use Rattle.model.specs.Monitor.{Asked}
+use Rattle.model.specs.Monitor.{Asked, Meaning}
 use Rattle.monitor.specs.declared.pair.Pair.{Pair}
 
 -- lines below n answer by f, the lines after them up to line 15 by g, and no other line has an answer
@@ -40,12 +40,10 @@ module _ {A B : Type 0} (first : A → ℕ) where
   abbrev pub pair_left : (A → ℕ → ℕ → ℕ → ℕ) → (B → ℕ → ℕ → ℕ → ℕ) → Pair A B → ℕ → ℕ → ℕ → ℕ
   pair_left f g m = joined_left (first m.first) (f m.first) (g m.second)
 
-module _
-    {A B : Type 0} (lines : A → ℕ) (ready : A → ℕ → ℕ → Bool) (ceiling : A → ℕ → ℕ → ℕ) (left : A → ℕ → ℕ → ℕ → ℕ)
-    (lines' : B → ℕ) (ready' : B → ℕ → ℕ → Bool) (ceiling' : B → ℕ → ℕ → ℕ) (left' : B → ℕ → ℕ → ℕ → ℕ) where
+module _ {A B : Type 0} (means : Meaning A) (means' : Meaning B) where
   -- the part that has the line was asked, and the other is as before
   pub record PartAsked (m : Pair A B) (k t : ℕ) (r : Bool) (n : Pair A B) : Type 0 where
-    pub in_first : k < lines m.first → Asked lines ready ceiling left m.first k t r n.first × (n.second ≡ m.second)
+    pub in_first : k < means.lines m.first → Asked means m.first k t r n.first × (n.second ≡ m.second)
     pub in_second :
-        lines m.first ≤ k → k < 16
-        → Asked lines' ready' ceiling' left' m.second (k - lines m.first) t r n.second × (n.first ≡ m.first)
+        means.lines m.first ≤ k → k < 16
+        → Asked means' m.second (k - means.lines m.first) t r n.second × (n.first ≡ m.first)

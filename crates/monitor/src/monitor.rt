@@ -1,7 +1,8 @@
 // What every monitor answers: how many lines it has, when a line is ready, and how many permits a window can hold.
 ghost use Rattle.std.specs.Prelude.{◌≡◌, ℕ, Bool, true, ⊤};
-ghost use Rattle.model.specs.Monitor.{MonitorLaws, Asked};
+ghost use Rattle.model.specs.Monitor.{MonitorLaws, Asked, meant};
 
+// A line with an instant, or with a window, is what is asked: a type for both would be made at each call and taken apart in it.
 pub trait Monitor {
     ghost lines: { Self → ℕ };
 
@@ -27,7 +28,7 @@ pub trait Monitor {
 
     // Answers whether the line is ready; a yes is a permit.
     fn ask(&mut self, line: u32, at: u32) -> bool
-        ensures asked { Asked lines ready ceiling left self.old line at result self.new }
+        ensures asked { Asked (meant lines ready ceiling left) self.old line at result self.new }
         ensures once { result ≡ true → spent self.old line at self.new };
 
     ghost lawful: { (m : Self) → MonitorLaws (lines m) (ready m) (ceiling m) (left m) };

@@ -3,6 +3,6 @@ mod calls;
 
 #[derive(Drop)]
 pub struct Pair<A, B> {
-    first: A,
-    second: B,
+    pub first: A,
+    pub second: B,
 }

@@ -1,3 +1,2 @@
 -- The lemmas that several proofs share.
-pub mod Serving
 pub mod Places

@@ -1,12 +1,10 @@
 -- The queues of all partitions, when one of them changes.
-use Rattle.std.proofs.Common.{◌≡◌, ℕ, ◌+◌, ◌<◌, ◌≤◌, Bool, true, false, cond, eqb, List, [], ◌∷◌, ◌++◌, map, length, get_or, set, sym, refl, ap, ◌∙◌, arith}
+use Rattle.std.proofs.Common.{◌≡◌, ℕ, ◌<◌, ◌≤◌, Bool, true, false, cond, eqb, List, [], ◌∷◌, ◌++◌, map, length, get_or, set, sym, refl, ap, ◌∙◌, arith}
 use Rattle.std.specs.List.{AllByRecursion as All}
-use Rattle.std.proofs.lemmas.List.{get_or-map, get_or_past, get_or-set_same, get_or-set_other, set-get_or, length-map, length-set, length-take, length_push, map-set}
-use Rattle.std.proofs.lemmas.List.Sums.{sum_by-set}
+use Rattle.std.proofs.lemmas.List.{get_or-map, get_or-set_same, get_or-set_other, set-get_or, length-set, length-take, map-set}
 use Rattle.std.proofs.ByRecursion.{sum_by_le}
 use Rattle.std.proofs.lemmas.Bool.{eqb-true, eqb-false, eq-eqb}
 use Rattle.model.specs.declared.run.Event.{Event}
-use Rattle.model.specs.Tick.{put}
 use Rattle.parts.specs.declared.queue.Queue.{Queue}
 use Rattle.parts.specs.declared.queues.Queues.{Queues}
 use Rattle.parts.specs.Pending.{pending, held_by}
@@ -31,17 +29,6 @@ held_few qs eight = held_by_few qs.all (omega arith)
 abbrev at : List Queue → ℕ → List Event
 at all p = get_or (map pending all) p []
 
-pub past : (all : List Queue) (p : ℕ) → length all ≤ p → at all p ≡ []
-past all p h = get_or_past (map pending all) p [] (omega (arith, length-map all pending))
-
-alike : (f : ℕ → List Event) (p j : ℕ) (t : Bool) → eqb j p ≡ t → f j ≡ cond t (f p) (f j)
-alike f p j true e = ap f (eqb-true j p e)
-alike f p j false e = refl
-
--- to replace a queue by itself changes nothing
-pub unchanged : (f : ℕ → List Event) (p j : ℕ) → f j ≡ put f p (f p) j
-unchanged f p j = alike f p j (eqb j p) refl
-
 -- one queue is replaced, at the place of partition p
 module _ (all : List Queue) (i p : ℕ) (is : i ≡ p) (known : i < length all) (d : Queue) where
   pub before : at all p ≡ pending (get_or all i d)
@@ -63,9 +50,6 @@ module _ (all : List Queue) (i p : ℕ) (is : i ≡ p) (known : i < length all) 
   pub after : (q : Queue) → at (set all i q) p ≡ pending q
   after q = by_test q p true (eq-eqb p p refl)
 
-  pub summed : (q : Queue) → held_by (set all i q) + length (pending (get_or all i d)) ≡ held_by all + length (pending q)
-  summed q = sum_by-set (λ q. length (pending q)) all i q d known
-
   pub same : (q : Queue) → q ≡ get_or all i d → set all i q ≡ all
   same q e = ap (set all i) e ∙ set-get_or all i d
 
@@ -75,7 +59,3 @@ module _ (all : List Queue) (i p : ℕ) (is : i ≡ p) (known : i < length all) 
         → (j : ℕ) → at (set all i q) j ≡ cond r (cond (eqb j p) (at all p ++ e ∷ []) (at all j)) (at all j)
     joined true did full j = replaced q j ∙ ap (λ l. cond (eqb j p) l (at all j)) (did ∙ ap (λ l. l ++ e ∷ []) (sym before))
     joined false did full j = ap (λ qs. at qs j) (same q (full refl))
-
-    pub longer : (r : Bool) → pending q ≡ cond r (pending (get_or all i d) ++ e ∷ []) (pending (get_or all i d)) → held_by (set all i q) ≡ held_by all + cond r 1 0
-    longer true did = omega (arith, summed q, ap length did, length_push (pending (get_or all i d)) e)
-    longer false did = omega (arith, summed q, ap length did)

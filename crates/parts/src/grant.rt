@@ -8,7 +8,7 @@ use crate::phase::Phase;
 mod calls;
 
 // A grant is in no step that has no ticks left.
-#[derive(Clone, Copy)]
+#[derive(Clone, Copy, PartialEq, Eq, Debug)]
 pub struct Grant {
     line: u8,
     phase: Phase,

@@ -8,5 +8,5 @@ mod queues;
 
 pub use grant::Grant;
 pub use phase::Phase;
-pub use queue::Queue;
+pub use queue::{CAPACITY, Queue};
 pub use queues::Queues;

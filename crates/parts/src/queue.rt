@@ -6,10 +6,11 @@ use model::Event;
 mod calls;
 
 // The most events that a queue holds.
-const CAPACITY: usize = 32;
+pub const CAPACITY: usize = 32;
 
-// Oldest event first; what stands past the count is not part of the queue.
-#[derive(Clone, Copy)]
+// Oldest event first; what stands past the count is not part of the queue. It is a table with a count and no vector of the library:
+// a queue is Copy, which such a vector is not.
+#[derive(Clone, Copy, Debug)]
 pub struct Queue {
     events: [Event; CAPACITY],
     len: usize,

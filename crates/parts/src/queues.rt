@@ -9,12 +9,13 @@ mod calls;
 // The most partitions that a board has.
 const PARTITIONS: usize = 8;
 
-#[derive(Clone, Copy)]
+#[derive(Clone, Copy, Debug)]
 pub struct Queues {
     all: [Queue; PARTITIONS],
 }
 
-// Whether a partition is one of those that have a queue.
+// Whether a partition is one of those that have a queue. Events are put and served behind this test: through `get_mut` the check
+// follows no write into a table.
 fn has_queue(all: &[Queue], partition: u8) -> bool
     ensures { result ≡ nat_lt partition (length all.now) }
 {
@@ -26,9 +27,5 @@ fn sum_of(all: &[Queue]) -> usize
     requires { length all.now ≤ 8 }
     ensures { result ≡ held_by all.now }
 {
-    let mut sum = 0;
-    for queue in all {
-        sum += queue.len();
-    }
-    sum
+    all.iter().map(|queue| queue.len()).sum()
 }

@@ -1,44 +1,40 @@
 // Prints the plan of an example board, how a board that is out of range is refused, and a run of twenty ticks.
 #![tactic(auto)]
 
-mod example;
 mod running;
-mod trouble;
+mod told;
 
-use board::Board;
-use curve::{Curve, bound};
-use example::{Plan, board_k, plan_k};
+use board::{Board, Layout};
+use curve::bound;
+use example::{board_k, curves_k, monitors_k};
 use model::Slot;
-use monitor::Monitor;
+use report::exit_code;
 use running::show_run;
 use std::process::ExitCode;
-use trouble::{Told, Trouble};
+use told::Told;
+
+type Trouble = report::Trouble<Told>;
 
 fn main(rt: HostRuntime) -> ExitCode {
-    match run(&rt) {
-        Ok(()) => ExitCode::SUCCESS,
-        Err(trouble) => {
-            let _ = rt.eprintln(&trouble);
-            ExitCode::FAILURE
-        }
-    }
+    exit_code(&rt, run(&rt))
 }
 
 fn run(rt: &impl Print) -> Result<(), Trouble> {
-    let plan = plan_k()?;
-    show_partitions(rt, &plan)?;
-    show_lines(rt, &plan.board)?;
-    show_refusal(rt)?;
-    show_run(rt)
+    let mut board = board_k();
+    show_partitions(rt, &board)?;
+    show_lines(rt, &board)?;
+    show_refusal(rt, &mut board)?;
+    show_run(rt, board)
 }
 
-fn show_partitions(rt: &impl Print, plan: &Plan) -> Result<(), Trouble> {
-    let partitions = plan.board.partitions();
-    let cycle = plan.board.cycle();
+fn show_partitions(rt: &impl Print, board: &Board) -> Result<(), Trouble> {
+    let partitions = board.partitions();
+    let cycle = board.cycle();
     println!(rt; "board K: {partitions} partitions, cycle {cycle} ticks")?;
+    let (monitor, curve) = (monitors_k(), curves_k());
     for partition in 0..u32::from(partitions) {
-        let own = plan.board.own(partition)?;
-        let ticks = bound(&plan.board, &plan.monitor, &plan.curve, partition)?;
+        let own = board.own(partition)?;
+        let ticks = bound(board, &monitor, &curve, partition)?;
         println!(rt;
             "partition {partition}: {own} ticks of each cycle, response-time bound {ticks} ticks"
         )?;
@@ -55,18 +51,15 @@ fn show_lines(rt: &impl Print, board: &Board) -> Result<(), Trouble> {
 }
 
 // A slot of no ticks is out of range, and the board is as it was.
-fn show_refusal(rt: &impl Print) -> Result<(), Trouble> {
-    let mut board = board_k()?;
-    let slots = [
-        Slot {
-            owner: 0,
-            ticks: 10,
-        },
-        Slot { owner: 1, ticks: 0 },
-    ];
-    let overheads = board.overheads();
-    if let Err(refusal) = board.fill(2, &slots, &[], overheads) {
-        let told = Told(refusal);
+fn show_refusal(rt: &impl Print, board: &mut Board) -> Result<(), Trouble> {
+    let layout = Layout {
+        partitions: 2,
+        slots: &[Slot::new(0, 10), Slot::new(1, 0)],
+        lines: &[],
+        overheads: board.overheads(),
+    };
+    if let Err(refusal) = board.fill(layout) {
+        let told = Told::from(refusal);
         println!(rt; "a board with slot 1 of no ticks is refused: {told}")?;
     }
     let cycle = board.cycle();

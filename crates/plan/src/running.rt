@@ -1,67 +1,32 @@
-// A run on board K: an event raised, twenty ticks run, and the spans and finished events that they wrote.
-use crate::example::core_k;
-use crate::trouble::Trouble;
-use model::{Answer, Finished, Kind, Span};
-use scheduler::Mask;
+// A run on a board of two lines: an event raised, twenty ticks run, and the spans and finished events that they wrote.
+use crate::Trouble;
+use board::Board;
+use example::monitors_k;
+use model::{Answer, Finished, Span};
+use scheduler::{Core, Mask};
+use std::fmt;
 
-pub fn show_run(rt: &impl Print) -> Result<(), Trouble> {
-    let mut core = core_k()?;
-    let mask = Mask::new();
-    let word = match core.raise(&mask, 0, 7)? {
+pub fn show_run(rt: &impl Print, board: Board) -> Result<(), Trouble> {
+    let mut core = Core::new(board, monitors_k());
+    let word = match core.raise(&Mask::new(), 0, 7)? {
         Answer::Permitted => "permitted",
         Answer::Queued => "queued",
     };
     println!(rt; "line 0 raised at 0 with tag 7: {word}")?;
-    let mut spans = [Span {
-        first: 0,
-        ticks: 0,
-        kind: Kind::Application,
-        who: 0,
-        owner: 0,
-    }; 8];
-    let mut finished = [Finished {
-        tag: 0,
-        line: 0,
-        raised: 0,
-        at: 0,
-    }; 2];
+    let mut spans = [Span::BLANK; 8];
+    let mut finished = [Finished::BLANK; 2];
     let ran = core.advance(20, &mut spans, &mut finished)?;
-    for span in spans.iter().take(ran.spans) {
-        show_span(rt, *span)?;
-    }
-    for event in finished.iter().take(ran.finished) {
-        show_finished(rt, *event)?;
-    }
+    show_first(rt, &spans, ran.spans)?;
+    show_first(rt, &finished, ran.finished)?;
     let instant = core.instant();
     println!(rt; "instant {instant}")?;
     Ok(())
 }
 
-fn show_span(rt: &impl Print, span: Span) -> Result<(), Trouble> {
-    let first = span.first;
-    let ticks = span.ticks;
-    let letter = letter(span.kind);
-    let who = span.who;
-    let owner = span.owner;
-    println!(rt; "S {first} {ticks} {letter} {who} {owner}")?;
-    Ok(())
-}
-
-fn show_finished(rt: &impl Print, event: Finished) -> Result<(), Trouble> {
-    let tag = event.tag;
-    let line = event.line;
-    let raised = event.raised;
-    let at = event.at;
-    println!(rt; "D {tag} {line} {raised} {at}")?;
-    Ok(())
-}
-
-fn letter(kind: Kind) -> &'static str {
-    match kind {
-        Kind::Top => "T",
-        Kind::Switch => "X",
-        Kind::Interposed => "I",
-        Kind::Bottom => "B",
-        Kind::Application => "A",
+// The first of these, a line each. Each program has its own: of a public one no contract could say what is printed.
+fn show_first<T: fmt::Display>(rt: &impl Print, items: &[T], count: usize) -> Result<(), Trouble> {
+    for item in items.iter().take(count) {
+        println!(rt; "{item}")?;
     }
+    Ok(())
 }

@@ -9,6 +9,7 @@ use crate::trouble::Trouble;
 use example::{board_k, monitors_k};
 use player::play_sheet;
 use replies::Page;
+use report::exit_code;
 use std::io::Read;
 use std::process::ExitCode;
 
@@ -16,36 +17,23 @@ use std::process::ExitCode;
 const MOST_BYTES: u64 = 65_536;
 
 fn main(rt: HostRuntime) -> ExitCode {
-    match run(&rt) {
-        Ok(()) => ExitCode::SUCCESS,
-        Err(trouble) => {
-            let _ = rt.eprintln(&trouble);
-            ExitCode::FAILURE
-        }
-    }
+    exit_code(&rt, run(&rt))
 }
 
 fn run(rt: &HostRuntime) -> Result<(), Trouble> {
     let sheet = sheet_of_input(rt)?;
-    let printer = match Printer::new(rt.alloc(), rt.stdout()) {
-        Ok(printer) => printer,
-        Err(error) => return Err(Trouble::Output(error)),
-    };
+    let printer = Printer::new(rt.alloc(), rt.stdout()).map_err(Trouble::Output)?;
     let mut page = Page::new(printer);
     let played = play_sheet(board_k(), monitors_k(), &sheet, &mut page);
-    if let Err(error) = page.into_inner().finish() {
-        return Err(Trouble::Output(error));
-    }
-    match played {
-        Ok(()) => Ok(()),
-        Err(_) => Err(Trouble::Unwritten),
-    }
+    page.into_inner().finish().map_err(Trouble::Output)?;
+    played.map_err(|_| Trouble::Unwritten)
 }
 
 fn sheet_of_input(rt: &HostRuntime) -> Result<Vec<u8>, Trouble> {
     let mut sheet = Vec::new(rt.alloc());
-    match rt.stdin().take(MOST_BYTES).read_to_end(&mut sheet) {
-        Ok(_) => Ok(sheet),
-        Err(error) => Err(Trouble::Input(error)),
-    }
+    rt.stdin()
+        .take(MOST_BYTES)
+        .read_to_end(&mut sheet)
+        .map_err(Trouble::Input)?;
+    Ok(sheet)
 }

@@ -30,12 +30,9 @@ impl Printer {
 
 impl fmt::Write for Printer {
     fn write_str(&mut self, text: &str) -> fmt::Result {
-        match self.out.write_all(text.as_bytes()) {
-            Ok(()) => Ok(()),
-            Err(error) => {
-                self.error = Some(error);
-                Err(fmt::Error)
-            }
-        }
+        self.out.write_all(text.as_bytes()).map_err(|error| {
+            self.error = Some(error);
+            fmt::Error
+        })
     }
 }

@@ -1,19 +1,13 @@
-// What can go wrong, told to a person.
-use std::{fmt, io};
+// What can go wrong, told to a person: of its own, since it says whether the sheet or the replies failed, and nothing is refused.
+use std::io;
+use thiserror::Error;
 
-#[derive(Drop)]
+#[derive(Debug, Drop, Error)]
 pub enum Trouble {
+    #[error("the sheet was not read: {0}")]
     Input(io::Error),
+    #[error("the replies were not printed: {0}")]
     Output(io::Error),
+    #[error("the replies were not printed")]
     Unwritten,
-}
-
-impl fmt::Display for Trouble {
-    fn fmt<W: fmt::Write>(&self, f: &mut fmt::Formatter<W>) -> fmt::Result {
-        match self {
-            Trouble::Input(error) => write!(f, "the sheet was not read: {error}"),
-            Trouble::Output(error) => write!(f, "the replies were not printed: {error}"),
-            Trouble::Unwritten => write!(f, "the replies were not printed"),
-        }
-    }
 }

@@ -1,6 +1,5 @@
 -- Lemmas of the crate.
 mod Turning
-mod Obeying
 mod Progress
 mod Telling
 mod Sessions

@@ -1,8 +1,9 @@
 -- One answer: two outcomes of one turn from the same place are equal in all that the rules fix.
-use Rattle.std.specs.Prelude.{◌≡◌, ℕ, Bool, List, Option}
+use Rattle.std.specs.Prelude.{◌≡◌, List, Option}
 use Rattle.model.specs.Run.{Call}
 use Rattle.replies.specs.declared.reply.Reply.{Reply}
 use Rattle.player.specs.Playing.{Place, Turned}
+use Rattle.model.specs.Monitor.{Meaning}
 
 -- all but the monitor
 pub record SamePlace {S : Type 0} (q r : Place S) : Type 0 where
@@ -16,6 +17,6 @@ pub record SamePlace {S : Type 0} (q r : Place S) : Type 0 where
 -- the reply, the calls made with their answers, and the place after, but for the monitor
 abbrev pub OneTurn : Type 0 → Type 0
 OneTurn S =
-    (lines : S → ℕ) (ready : S → ℕ → ℕ → Bool) (ceiling : S → ℕ → ℕ → ℕ) (left : S → ℕ → ℕ → ℕ → ℕ)
+    (means : Meaning S)
     (p : Place S) (a b : Option Reply) (calls more : List Call) (q r : Place S)
-    → Turned lines ready ceiling left p a calls q → Turned lines ready ceiling left p b more r → (a ≡ b) × (calls ≡ more) × SamePlace q r
+    → Turned means p a calls q → Turned means p b more r → (a ≡ b) × (calls ≡ more) × SamePlace q r

@@ -1,8 +1,7 @@
 -- Playing a sheet, turn by turn: each turn has one reply, and makes one call of the core or none.
-use Rattle.std.specs.Prelude.{◌≡◌, ℕ, zero, suc, ◌-◌, Bool, List, [], ◌∷◌, ◌++◌, replicate, Some, None, Ok, Err, Option, Result}
+use Rattle.std.specs.Prelude.{◌≡◌, ℕ, zero, suc, ◌-◌, List, [], ◌∷◌, ◌++◌, replicate, Some, None, Ok, Err, Option, Result}
 use Rattle.model.specs.declared.refusal.Refusal.{Refusal}
 use Rattle.model.specs.declared.run.Answer.{Answer}
-use Rattle.model.specs.declared.run.Answer.TheVariants.{Permitted as says_permitted, Queued as says_queued}
 use Rattle.model.specs.declared.run.Kind.TheVariants.{Application}
 use Rattle.model.specs.declared.run.Span.{Span}
 use Rattle.model.specs.declared.run.Finished.{Finished}
@@ -14,8 +13,9 @@ use Rattle.sheet.specs.declared.command.Command.TheVariants.{Raise, Strobe, SetM
 use Rattle.sheet.specs.declared.fault.Fault.{Fault}
 use Rattle.sheet.specs.declared.fault.Fault.TheVariants.{Declined}
 use Rattle.replies.specs.declared.reply.Reply.{Reply}
-use Rattle.replies.specs.declared.reply.Reply.TheVariants.{Permitted, Queued, Strobed as Struck, Masked, Advanced as Ticked, Refused}
-use Rattle.replies.specs.Replies.{reply_text}
+use Rattle.replies.specs.declared.reply.Reply.TheVariants.{Strobed as Struck, Masked, Advanced as Ticked, Refused}
+use Rattle.replies.specs.Replies.{answer_reply, reply_text}
+use Rattle.model.specs.Monitor.{Meaning}
 
 -- where a player stands: the core, the mask's word, the number of the line read last, the ticks of its A that are still to run,
 -- and the lines to come, as they read
@@ -53,10 +53,14 @@ blank_spans = replicate 64 (record { first = 0; ticks = 0; kind = Application; w
 abbrev pub blank_events : List Finished
 blank_events = replicate 64 (record { tag = 0; line = 0; raised = 0; at = 0 })
 
+-- the reply on a line of the sheet: what was done, or why the line was refused
+abbrev pub reply_on : ℕ → Result Reply Fault → Reply
+reply_on line (Ok a) = a
+reply_on line (Err f) = Refused line f
+
 -- the reply to a raise, on a line of the sheet
 abbrev pub raised_reply : ℕ → Result Answer Refusal → Reply
-raised_reply line (Ok says_permitted) = Permitted
-raised_reply line (Ok says_queued) = Queued
+raised_reply line (Ok a) = answer_reply a
 raised_reply line (Err e) = Refused line (Declined e)
 
 abbrev pub strobed_reply : ℕ × ℕ → Reply
@@ -82,12 +86,12 @@ pub record Advances {S : Type 0} (p : Place S) (n : ℕ) (a : Reply) (c : Call) 
   pub called : c ≡ advance n blank_spans blank_events ran spans events
   pub place_after : q ≡ place after p.mask p.line (owing_after n ran) p.rest
 
-module _ {S : Type 0} (lines : S → ℕ) (ready : S → ℕ → ℕ → Bool) (ceiling : S → ℕ → ℕ → ℕ) (left : S → ℕ → ℕ → ℕ → ℕ) where
+module _ {S : Type 0} (means : Meaning S) where
   -- one raise
   pub record Raises (p : Place S) (k tag : ℕ) (a : Reply) (c : Call) (q : Place S) : Type 0 where
     pub answer : Result Answer Refusal
     pub after : Core S
-    pub raised : Raised lines ready ceiling left p.core p.mask k tag answer after
+    pub raised : Raised means p.core p.mask k tag answer after
     pub replied : a ≡ raised_reply p.line answer
     pub called : c ≡ raise p.mask k tag answer
     pub place_after : q ≡ with_core p after
@@ -96,7 +100,7 @@ module _ {S : Type 0} (lines : S → ℕ) (ready : S → ℕ → ℕ → Bool) (
   pub record Strobes (p : Place S) (word tag : ℕ) (a : Reply) (c : Call) (q : Place S) : Type 0 where
     pub words : ℕ × ℕ
     pub after : Core S
-    pub strobed : Strobed lines ready ceiling left p.core p.mask word tag words after
+    pub strobed : Strobed means p.core p.mask word tag words after
     pub replied : a ≡ strobed_reply words
     pub called : c ≡ strobe p.mask word tag words
     pub place_after : q ≡ with_core p after

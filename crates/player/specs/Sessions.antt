@@ -8,15 +8,16 @@ use Rattle.model.specs.Seen.{seen}
 use Rattle.model.specs.Laws.{LossBounded, Responsive, Prompt}
 use Rattle.sheet.specs.Reading.{read_sheet}
 use Rattle.player.specs.Playing.{Place, at_start, Done, Turns}
+use Rattle.model.specs.Monitor.{Meaning}
 
-module _ {S : Type 0} (lines : S → ℕ) (ready : S → ℕ → ℕ → Bool) (ceiling : S → ℕ → ℕ → ℕ) (left : S → ℕ → ℕ → ℕ → ℕ)
+module _ {S : Type 0} (means : Meaning S)
     {O : Type 0} (took : O → List ℕ → O → Type 0) (failed : O → Bool) where
   -- from p to q, told to an output that was o and is v: all was played and told, or the output failed
   pub record Played (p : Place S) (o : O) (told : Bool) (q : Place S) (v : O) : Type 0 where
     pub text : List ℕ
     pub calls : List Call
-    pub turns : Turns lines ready ceiling left p text calls q
-    pub run : Run lines ready ceiling left p.core calls q.core
+    pub turns : Turns means p text calls q
+    pub run : Run means p.core calls q.core
     pub done : told ≡ true → Done q
     pub written : told ≡ true → WritesInCalls took o text v
     pub stopped : told ≡ false → failed v ≡ true
@@ -25,6 +26,6 @@ module _ {S : Type 0} (lines : S → ℕ) (ready : S → ℕ → ℕ → Bool) (
   pub record Session (b : Layout) (m : S) (sheet : List ℕ) (o : O) (told : Bool) (v : O) : Type 0 where
     pub after : Place S
     pub played : Played (at_start (new_core b m) (read_sheet sheet)) o told after v
-    pub loss : LossBounded b (ceiling m) (seen played.calls)
-    pub response : Responsive b (ceiling m) (seen played.calls)
-    pub promptness : Prompt lines ready ceiling left b m
+    pub loss : LossBounded b (means.ceiling m) (seen played.calls)
+    pub response : Responsive b (means.ceiling m) (seen played.calls)
+    pub promptness : Prompt means b m

@@ -1,4 +1,5 @@
-// What lines are played on: a core, the mask, and the ticks of the latest A that are still to run.
+// What lines are played on: a core, the mask, and the ticks of the latest A that are still to run. They are a count, to which
+// a remainder is written at each turn: an Option of a NonZero would say the same with one conversion more.
 ghost use Rattle.std.specs.Prelude.{◌^◌, ◌<◌};
 
 use monitor::Monitor;

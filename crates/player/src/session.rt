@@ -2,6 +2,7 @@
 ghost use Rattle.std.specs.Prelude.{is_ok};
 ghost use Rattle.board.specs.Held.{held};
 ghost use Rattle.player.specs.Sessions.{Session};
+ghost use Rattle.monitor.specs.Meanings.{meaning};
 
 use crate::player::Player;
 use board::Board;
@@ -17,7 +18,7 @@ pub fn play_sheet<M: Monitor + Drop, O: Output>(
     sheet: &[u8],
     out: &mut O,
 ) -> Result<(), Unwritten>
-    ensures { Session M.Monitor.lines M.Monitor.ready M.Monitor.ceiling M.Monitor.left O.Output.took O.Output.failed (held board) monitor sheet.now out.old (is_ok result) out.new }
+    ensures { Session (meaning M.Monitor) O.Output.took O.Output.failed (held board) monitor sheet.now out.old (is_ok result) out.new }
 {
     let mut player = Player::new(Core::new(board, monitor), sheet);
     player.play(out)

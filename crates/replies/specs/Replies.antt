@@ -5,7 +5,15 @@ use Rattle.sheet.specs.declared.fault.Fault.{Fault}
 use Rattle.replies.specs.declared.reply.Reply.{Reply}
 use Rattle.replies.specs.declared.reply.Reply.TheVariants.{Permitted, Queued, Strobed, Masked, Advanced, Refused}
 use Rattle.replies.specs.declared.reply.Strips.{Strips}
-use Rattle.replies.specs.Texts.{spaced, line_feed, span_text, finished_text, lines_text}
+use Rattle.model.specs.declared.run.Answer.{Answer}
+use Rattle.model.specs.declared.run.Answer.TheVariants.{Permitted as says_permitted, Queued as says_queued}
+use Rattle.model.specs.Texts.{spaced}
+use Rattle.replies.specs.Texts.{line_feed, span_text, finished_text, lines_text}
+
+-- the reply to a raise that is not refused
+abbrev pub answer_reply : Answer → Reply
+answer_reply says_permitted = Permitted
+answer_reply says_queued = Queued
 
 -- the spans that an advance wrote, then the finished events
 abbrev pub strips_text : Strips → List ℕ

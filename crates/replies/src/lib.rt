@@ -6,7 +6,7 @@ mod output;
 mod page;
 mod reply;
 
-pub use lines::{FinishedLine, SpanLine};
+pub use lines::LineOf;
 pub use output::{Output, Unwritten};
 pub use page::Page;
-pub use reply::{NO_FINISHED, NO_SPAN, PLACES, Reply, Strips};
+pub use reply::{PLACES, Reply, Strips};

@@ -5,7 +5,7 @@ ghost use Rattle.replies.specs.Replies.{reply_text};
 use crate::reply::Reply;
 
 // The output did not take a reply.
-#[derive(Clone, Copy)]
+#[derive(Clone, Copy, PartialEq, Eq, Debug)]
 pub struct Unwritten;
 
 pub trait Output {

@@ -6,6 +6,7 @@ use crate::output::{Output, Unwritten};
 use crate::reply::Reply;
 use std::fmt;
 
+// A flag, and no Option or Result: the writer is held, and can be given back, after a failure too. Only contracts read it.
 #[derive(Drop)]
 pub struct Page<W> {
     text: fmt::Formatter<W>,
@@ -38,12 +39,8 @@ impl<W: fmt::Write> Output for Page<W> {
     ghost failed = { λ p. p.failed };
 
     fn tell(&mut self, reply: &Reply) -> Result<(), Unwritten> {
-        match self.text.write(reply) {
-            Ok(()) => Ok(()),
-            Err(_) => {
-                self.failed = true;
-                Err(Unwritten)
-            }
-        }
+        let told = self.text.write(reply).map_err(|_| Unwritten);
+        self.failed |= told.is_err();
+        told
     }
 }

@@ -1,42 +1,37 @@
 // A player's reply to a line of a sheet.
-ghost use Rattle.std.specs.Prelude.{◌≡◌, take, Some};
+ghost use Rattle.std.specs.Prelude.{◌≡◌, ℕ, List, take, Some};
 ghost use Rattle.std.specs.Fmt.{WritesOnOk};
-ghost use Rattle.replies.specs.Texts.{span_text, finished_text, lines_text};
-ghost use Rattle.replies.specs.Replies.{strips_text, reply_text};
+ghost use Rattle.replies.specs.Texts.{line_text, lines_text};
+ghost use Rattle.replies.specs.Replies.{answer_reply, strips_text, reply_text};
 
-use crate::lines::{FinishedLine, SpanLine};
-use model::{Finished, Kind, Ran, Span};
+use crate::lines::LineOf;
+use model::{Answer, Finished, Ran, Span};
 use sheet::Fault;
 use std::fmt;
 
 // The places of each buffer that a player advances with.
 pub const PLACES: usize = 64;
 
-// A place that nothing was written to.
-pub const NO_SPAN: Span = Span {
-    first: 0,
-    ticks: 0,
-    kind: Kind::Application,
-    who: 0,
-    owner: 0,
-};
-
-pub const NO_FINISHED: Finished = Finished {
-    tag: 0,
-    line: 0,
-    raised: 0,
-    at: 0,
-};
-
-// What one advance wrote: both buffers, and how much of each.
-#[derive(Clone, Copy)]
+// What one advance wrote: both buffers, and how much of each. An advance writes whole buffers in place, and a reply is Copy,
+// so a vector of a fixed capacity would be filled by copying, and could not be copied.
+#[derive(Clone, Copy, PartialEq, Eq, Debug)]
 pub struct Strips {
     pub spans: [Span; PLACES],
     pub finished: [Finished; PLACES],
     pub ran: Ran,
 }
 
-#[derive(Clone, Copy)]
+// The spans that were written, then the finished events, one to a line.
+impl fmt::Display for Strips {
+    ghost output = { λ s. Some (strips_text s) };
+
+    fn fmt<W: fmt::Write>(&self, f: &mut fmt::Formatter<W>) -> fmt::Result {
+        write_lines(f, front(&self.spans, self.ran.spans))?;
+        write_lines(f, front(&self.finished, self.ran.finished))
+    }
+}
+
+#[derive(Clone, Copy, PartialEq, Eq, Debug)]
 pub enum Reply {
     // raised, with a grant
     Permitted,
@@ -52,6 +47,18 @@ pub enum Reply {
     Refused { line: usize, fault: Fault },
 }
 
+// The reply to a raise that is not refused.
+impl From<Answer> for Reply {
+    ghost from_gives = { λ a r. r ≡ answer_reply a };
+
+    fn from(answer: Answer) -> Reply {
+        match answer {
+            Answer::Permitted => Reply::Permitted,
+            Answer::Queued => Reply::Queued,
+        }
+    }
+}
+
 impl fmt::Display for Reply {
     ghost output = { λ r. Some (reply_text r) };
 
@@ -61,7 +68,7 @@ impl fmt::Display for Reply {
             Reply::Queued => writeln!(f, "Q"),
             Reply::Strobed { taken, permitted } => writeln!(f, "W {taken} {permitted}"),
             Reply::Masked => writeln!(f, "M"),
-            Reply::Advanced(strips) => write_strips(f, strips),
+            Reply::Advanced(strips) => write!(f, "{strips}"),
             Reply::Refused { line, fault } => {
                 let number = fault.number();
                 let place = fault.place();
@@ -71,41 +78,22 @@ impl fmt::Display for Reply {
     }
 }
 
-// The spans that were written, then the finished events.
-fn write_strips<W: fmt::Write>(f: &mut fmt::Formatter<W>, strips: &Strips) -> fmt::Result
-    ensures { WritesOnOk W.Write.write_str_gives f.old result (strips_text strips.now) f.new }
-{
-    write_spans(f, front(&strips.spans, strips.ran.spans))?;
-    write_finished(f, front(&strips.finished, strips.ran.finished))
-}
-
 // The first `count` places of a buffer, or all that it has.
 fn front<T>(buffer: &[T], count: usize) -> &[T]
     ensures { result.now ≡ take count buffer.now }
 {
-    if count < buffer.len() {
-        return &buffer[0..count];
-    }
-    buffer
+    &buffer[..count.min(buffer.len())]
 }
 
-// Spans, one to a line.
-fn write_spans<W: fmt::Write>(f: &mut fmt::Formatter<W>, spans: &[Span]) -> fmt::Result
-    ensures { WritesOnOk W.Write.write_str_gives f.old result (lines_text span_text spans.now) f.new }
+// Elements, one to a line.
+fn write_lines<T: fmt::Display + Copy, W: fmt::Write>(
+    f: &mut fmt::Formatter<W>,
+    elements: &[T],
+) -> fmt::Result
+    ensures { (line : T → List ℕ) → ((x : T) → line_text (T.output x) ≡ Some (line x)) → WritesOnOk W.Write.write_str_gives f.old result (lines_text line elements.now) f.new }
 {
-    for span in spans {
-        let line = SpanLine(*span);
-        write!(f, "{line}")?;
-    }
-    Ok(())
-}
-
-// Finished events, one to a line.
-fn write_finished<W: fmt::Write>(f: &mut fmt::Formatter<W>, events: &[Finished]) -> fmt::Result
-    ensures { WritesOnOk W.Write.write_str_gives f.old result (lines_text finished_text events.now) f.new }
-{
-    for event in events {
-        let line = FinishedLine(*event);
+    for element in elements {
+        let line = LineOf(*element);
         write!(f, "{line}")?;
     }
     Ok(())

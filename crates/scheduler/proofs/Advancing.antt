@@ -1,17 +1,18 @@
 -- The advance's loop: one stretch more, and why it stops.
-use Rattle.std.proofs.Common.{◌≡◌, ℕ, zero, suc, ◌+◌, ◌-◌, ◌^◌, ◌<◌, ◌≤◌, Bool, true, false, cond, leb, List, [], ◌∷◌, ◌++◌, length, take, drop, Some, Option, sym, refl, ap, ◌∙◌, subst, ⊎_elim, add-zero, add-one, arith, length-append}
+use Rattle.std.proofs.Common.{◌≡◌, ℕ, zero, suc, ◌+◌, ◌-◌, ◌^◌, ◌<◌, ◌≤◌, Bool, true, false, cond, leb, List, [], ◌∷◌, ◌++◌, length, take, drop, Option, sym, refl, ap, ◌∙◌, subst, ⊎_elim, add-zero, add-one, arith, length-append}
 use Rattle.std.proofs.lemmas.List.{length-take-le, drop-drop}
 use Rattle.std.proofs.lemmas.Bool.{cases_lt}
 use Rattle.std.proofs.lemmas.Bool.Decides.{nat_tests}
 use Rattle.model.specs.declared.run.Span.{Span}
 use Rattle.model.specs.declared.run.Finished.{Finished}
 use Rattle.model.specs.Board.{Layout, owner_at}
-use Rattle.model.specs.Tick.{State, Row, tick, after, ended_in}
+use Rattle.model.specs.Tick.{State, tick, after, ended_in}
+use Rattle.model.specs.declared.run.Row.{Row}
 use Rattle.model.specs.Tape.{alike, longer, grown, span, tape}
 use Rattle.model.specs.Core.{Written}
 use Rattle.scheduler.specs.Slots.{Stays, StaysOn}
 use Rattle.scheduler.specs.Stretches.{Stretch, list_of}
-use Rattle.scheduler.specs.Buffers.{Fronted, ticks_of, lengthens_last, Placeable, PutThere}
+use Rattle.scheduler.specs.Strips.{Fronted, ticks_of, lengthens_last, PutThere}
 use Rattle.scheduler.specs.Ticking.{Going, Most}
 use Rattle.scheduler.proofs.Growing.{after_add, ended_add, tape_add, tape_longer, ended_longer}
 use Rattle.scheduler.proofs.Fronts.{length_grown}
@@ -56,10 +57,7 @@ module _ (b : Layout) (s : State) (n : ℕ) (spans : List Span) (events : List F
           ap (λ k. drop k now) split ∙ (sym (drop-drop (length more - c) c now) ∙ (ap (drop (length more - c)) w.rest ∙ (drop-drop (length more - c) c before ∙ ap (λ k. drop k before) (sym split))))
 
   module _ (k w c : ℕ) (t : State) (xs : List Span) (fs : List Finished) (g : Going b s n spans events (record { ticks = k; spans = w; finished = c }) t xs fs) where
-    -- the first spans of the buffer are the tape
-    pub spans_inside : w ≤ length xs
-    spans_inside = omega (arith, g.spans_written.counted, g.fits.spans_fit, g.same_spans)
-
+    -- the events written lie within their buffer
     pub events_inside : c ≤ length fs
     events_inside = omega (arith, g.events_written.counted, g.fits.events_fit, g.same_events)
 
@@ -67,12 +65,12 @@ module _ (b : Layout) (s : State) (n : ℕ) (spans : List Span) (events : List F
     pub ticks_fit : (x : Span) → k + x.ticks < 2 ^ 32 → ticks_of (take w xs) + x.ticks < 2 ^ 32
     ticks_fit x h = let same = ap ticks_of g.spans_written.front ∙ tape_ticks b s k in omega arith
 
-    -- a stretch whose row has a place is placeable, however long
-    pub placeable : (m : ℕ) (r : Row) → true ≡ leb (length (grown (take w xs) (span t.instant 0 r))) (length xs) → k + m < 2 ^ 32 → Placeable xs w (span t.instant m r)
-    placeable m r has few =
+    -- a stretch whose row has a place has one, however long
+    pub placed : (m : ℕ) (r : Row) → true ≡ leb (length (grown (take w xs) (span t.instant 0 r))) (length xs) → length (grown (take w xs) (span t.instant m r)) ≤ length xs
+    placed m r has =
         let same = room_alike (take w xs) t.instant m t.instant 0 r in
         let fits-now : length (grown (take w xs) (span t.instant 0 r)) ≤ length xs = grind (arith, nat_tests) in
-        record { inside = spans_inside; has_place = omega arith; few_ticks = ticks_fit (span t.instant m r) few }
+        omega arith
 
     next_tape : (m : ℕ) (r : Row) → 1 ≤ m → ((i : ℕ) → i < m → (tick b (after b t i)).row ≡ r) → tape b s (k + m) ≡ grown (take w xs) (span t.instant m r)
     next_tape m r some rows =
@@ -85,7 +83,7 @@ module _ (b : Layout) (s : State) (n : ℕ) (spans : List Span) (events : List F
     -- one stretch more
     pub going_more : (limit : ℕ) (room : Bool) (m w' c' : ℕ) (e : Option Finished) (t' : State) (r : Row) (xs' : List Span) (fs' : List Finished)
         → 1 ≤ m → k + limit ≤ n → (tick b t).row ≡ r → Stretch b t limit room m e t'
-        → length (grown (take w xs) (span t.instant m r)) ≤ length xs → PutThere xs w (span t.instant m r) (Some w') xs'
+        → length (grown (take w xs) (span t.instant m r)) ≤ length xs → PutThere xs w (span t.instant m r) w' xs'
         → c + length (list_of e) ≤ length fs → c' ≡ c + length (list_of e) → Fronted (take c fs ++ list_of e) fs fs'
         → Going b s n spans events (record { ticks = k + m; spans = w'; finished = c' }) t' xs' fs'
     going_more limit room m w' c' e t' r xs' fs' some within row x place put-there room-left c-is noted =
@@ -94,7 +92,7 @@ module _ (b : Layout) (s : State) (n : ℕ) (spans : List Span) (events : List F
         ended_add b s k m ∙ (ap (λ y. ended_in b s k ++ ended_in b y m) (sym g.state_after) ∙ (ap (λ l. ended_in b s k ++ l) x.ended ∙ ap (λ l. l ++ list_of e) (sym g.events_written.front))) in
         let tape-long = ap length tape-is in
         let ended-long = ap length ended_is ∙ (length-append (take c fs) (list_of e) ∙ ap (λ z. z + length (list_of e)) (length-take-le c fs events_inside)) in
-        let w-is : w' ≡ length (grown (take w xs) (span t.instant m r)) = cc put-there.count in
+        let w-is : w' ≡ length (grown (take w xs) (span t.instant m r)) = put-there.counted in
         record {
           few = omega (arith, x.few);
           fits = record { spans_fit = omega (arith, g.same_spans); events_fit = omega (arith, g.same_events) };
@@ -141,9 +139,6 @@ module _ (b : Layout) (s : State) (n : ℕ) (spans : List Span) (events : List F
             let same = ap (λ y. length (tick b y).ended) g.state_after in
             let long = ended_longer b s (suc k) j more in
             omega (arith, fits.events_fit, g.same_events, g.events_written.counted)
-
-pub shorter_stay : (b : Layout) (at o n m : ℕ) → Stays b at o n → m ≤ n → 0 < m → Stays b at o m
-shorter_stay b at o n m x few some = record { lasting = some; owned = λ i l. x.owned i (omega arith) }
 
 -- after some of its ticks the slot lasts for the others
 pub stays_on : (b : Layout) (at later o n m : ℕ) → Stays b at o n → later ≡ at + m → StaysOn b later o (n - m)

@@ -7,7 +7,8 @@ use Rattle.model.specs.declared.run.Finished.{Finished}
 use Rattle.model.specs.declared.run.Kind.{Kind}
 use Rattle.model.specs.declared.run.Kind.TheVariants.{Top, Switch, Application}
 use Rattle.model.specs.Board.{Layout, owner_at}
-use Rattle.model.specs.Tick.{State, Grant, grant, Row, Ticked, plain, closing, tick, by_rules, in_grant, in_slot, after, ended_in}
+use Rattle.model.specs.Tick.{State, Grant, grant, Ticked, plain, closing, tick, by_rules, in_grant, in_slot, after, ended_in}
+use Rattle.model.specs.declared.run.Row.{Row}
 use Rattle.scheduler.specs.Stretches.{Stretch}
 
 -- a tick that ends no event

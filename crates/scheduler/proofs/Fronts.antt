@@ -1,9 +1,9 @@
 -- Spans at the front of a buffer: one more lengthens the last or takes the next place.
-use Rattle.std.proofs.Common.{◌≡◌, ℕ, zero, suc, ◌+◌, ◌-◌, ◌<◌, ◌≤◌, Bool, true, false, cond, List, [], ◌∷◌, ◌++◌, length, get_or, take, drop, set, Some, Option, sym, refl, ap, ◌∙◌, subst, arith, length-append}
+use Rattle.std.proofs.Common.{◌≡◌, ℕ, zero, suc, ◌+◌, ◌-◌, ◌<◌, ◌≤◌, Bool, true, false, cond, List, [], ◌∷◌, ◌++◌, length, get_or, take, drop, set, sym, refl, ap, ◌∙◌, subst, arith, length-append}
 use Rattle.std.proofs.lemmas.List.{take_more, take_more_set, drop-set-lt, length-set, length-take-le, get_or-take}
 use Rattle.model.specs.declared.run.Span.{Span}
 use Rattle.model.specs.Tape.{alike, longer, grown}
-use Rattle.scheduler.specs.Buffers.{Fronted, ticks_of, lengthens_last, no_span, PutThere}
+use Rattle.scheduler.specs.Strips.{Fronted, ticks_of, lengthens_last, no_span, PutThere}
 use Rattle.scheduler.proofs.Growing.{behind}
 
 grown_push : (ys : List Span) (y x : Span) → grown (ys ++ y ∷ []) x ≡ cond (alike y x) (ys ++ longer y x.ticks ∷ []) (ys ++ y ∷ x ∷ [])
@@ -64,24 +64,24 @@ append_fronted xs w x l =
       same_length = length-set xs w x;
     }
 
-pub put_appends : (xs : List Span) (w : ℕ) (x : Span) (r : Option ℕ) (after : List Span) → w < length xs → lengthens_last (take w xs) x ≡ false → r ≡ Some (w + 1) → after ≡ set xs w x
+pub put_appends : (xs : List Span) (w : ℕ) (x : Span) (r : ℕ) (after : List Span) → w < length xs → lengthens_last (take w xs) x ≡ false → r ≡ w + 1 → after ≡ set xs w x
     → PutThere xs w x r after
 put_appends xs w x r after l is count after_is =
     let all = appended (take w xs) x is in
     let long : length (grown (take w xs) x) ≡ w + 1 = ap length all ∙ (length-append (take w xs) (x ∷ []) ∙ ap (λ n. n + 1) (length-take-le w xs (omega arith))) in
     record {
-      count = count ∙ ap Some (sym long);
+      counted = count ∙ sym long;
       fronted = subst (λ g. Fronted g xs after) (sym all) (subst (Fronted (take w xs ++ x ∷ []) xs) (sym after_is) (append_fronted xs w x l));
     }
 
-pub put_lengthens : (xs : List Span) (w : ℕ) (x : Span) (r : Option ℕ) (after : List Span) → 0 < w → w ≤ length xs → lengthens_last (take w xs) x ≡ true → r ≡ Some w
+pub put_lengthens : (xs : List Span) (w : ℕ) (x : Span) (r : ℕ) (after : List Span) → 0 < w → w ≤ length xs → lengthens_last (take w xs) x ≡ true → r ≡ w
     → after ≡ set xs (w - 1) (longer (get_or xs (w - 1) no_span) x.ticks) → PutThere xs w x r after
 put_lengthens xs w x r after some inside is count after_is =
     let y = longer (get_or xs (w - 1) no_span) x.ticks in
     let all = lengthened xs w x some inside is in
     let long : length (grown (take w xs) x) ≡ w = ap length all ∙ length-take-le w (set xs (w - 1) y) (omega (arith, length-set xs (w - 1) y)) in
     record {
-      count = count ∙ ap Some (sym long);
+      counted = count ∙ sym long;
       fronted =
           record {
             front = ap (λ n. take n after) long ∙ (ap (take w) after_is ∙ sym all);
@@ -105,3 +105,9 @@ pub last_few : (xs : List Span) (w : ℕ) → 0 < w → w ≤ length xs → (get
 last_few xs w some inside =
     let there = ap (λ (y : Span). y.ticks) (get_or-take w xs (w - 1) no_span (omega arith)) in
     omega (arith, last_ticks (take w xs) (w - 1) (omega (arith, length-take-le w xs inside)))
+
+-- a span that has a place and lengthens nothing takes the next place
+pub next_place : (xs : List Span) (w : ℕ) (x : Span) → w ≤ length xs → lengthens_last (take w xs) x ≡ false → length (grown (take w xs) x) ≤ length xs → w < length xs
+next_place xs w x inside is fits =
+    let long = length_grown (take w xs) x ∙ ap (λ t. cond t (length (take w xs)) (suc (length (take w xs)))) is in
+    omega (arith, length-take-le w xs inside)

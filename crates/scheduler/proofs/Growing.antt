@@ -4,7 +4,8 @@ use Rattle.std.proofs.lemmas.List.{append-nil}
 use Rattle.std.proofs.lemmas.Bool.Decides.{nat_tests}
 use Rattle.model.specs.declared.run.Span.{Span}
 use Rattle.model.specs.Board.{Layout}
-use Rattle.model.specs.Tick.{State, Row, tick, after, ended_in}
+use Rattle.model.specs.Tick.{State, tick, after, ended_in}
+use Rattle.model.specs.declared.run.Row.{Row}
 use Rattle.model.specs.Tape.{alike, longer, grown, span, tape}
 use Rattle.model.proofs.TapeTold.{grown_some}
 
@@ -65,11 +66,7 @@ tape_add b s k (suc m) r rows =
 -- lengths only grow
 pub grown_longer : (xs : List Span) (x : Span) → length xs ≤ length (grown xs x)
 grown_longer [] x = omega arith
-grown_longer (y ∷ []) x = by (alike y x)
-  where
-    by : (v : Bool) → 1 ≤ length (cond v (longer y x.ticks ∷ []) (y ∷ x ∷ []))
-    by true = omega arith
-    by false = omega arith
+grown_longer (y ∷ []) x = grown_some (y ∷ []) x
 grown_longer (z ∷ y ∷ ys) x = omega (arith, grown_longer (y ∷ ys) x)
 
 tape_later : (b : Layout) (s : State) (k d : ℕ) → length (tape b s k) ≤ length (tape b s (k + d))

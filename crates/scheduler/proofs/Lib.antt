@@ -8,7 +8,6 @@ pub mod Fronts
 pub mod TableBursts
 pub mod Advancing
 pub mod Taking
-pub mod Calls
 pub mod LineOrder
 pub mod Strobes
 pub mod Sparing

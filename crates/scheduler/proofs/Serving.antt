@@ -7,7 +7,8 @@ use Rattle.model.specs.declared.run.Event.{Event}
 use Rattle.model.specs.declared.run.Finished.{Finished}
 use Rattle.model.specs.declared.run.Kind.{Kind}
 use Rattle.model.specs.Board.{Layout}
-use Rattle.model.specs.Tick.{State, Grant, Row, Ticked, put, serving, worn, ends_at, tick}
+use Rattle.model.specs.Tick.{State, Grant, Ticked, put, serving, worn, ends_at, tick}
+use Rattle.model.specs.declared.run.Row.{Row}
 use Rattle.parts.specs.Service.{Service, serve, less, ends_in}
 use Rattle.scheduler.specs.Stretches.{Stretch, finished_of}
 use Rattle.scheduler.proofs.Bursts.{moved, Holds, quiet, quiet_stretch, ending_stretch, state_path}

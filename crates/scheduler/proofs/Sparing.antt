@@ -7,6 +7,7 @@ use Rattle.model.specs.Tick.{State}
 use Rattle.model.specs.Core.{Core, raise_fault, in_foreign_slot, permits, raised_state, told, Becomes, RaisedBy, Raised}
 use Rattle.scheduler.specs.Spending.{SpentOnce}
 use Rattle.scheduler.specs.Words.{noting}
+use Rattle.model.specs.Monitor.{Meaning}
 
 -- who asks finds no grant open
 asks_closed : (foreign opened ready : Bool) → (foreign && not opened) && ready ≡ true → opened ≡ false
@@ -14,7 +15,7 @@ asks_closed true false ready h = refl
 asks_closed true true ready h = let z : ◌≡◌ {A = ℕ} 0 1 = cc in absurd (omega arith)
 asks_closed false opened ready h = let z : ◌≡◌ {A = ℕ} 0 1 = cc in absurd (omega arith)
 
-module _ {S : Type 0} (lines : S → ℕ) (ready : S → ℕ → ℕ → Bool) (ceiling : S → ℕ → ℕ → ℕ) (left : S → ℕ → ℕ → ℕ → ℕ)
+module _ {S : Type 0} (means : Meaning S)
     (spent : S → ℕ → ℕ → S → Type 0) (m : S) (t : ℕ) where
   -- the strobe so far, from the monitor m at instant t: the word of lines permitted, and the core
   pub record Sparing (w : ℕ) (y : Core S) : Type 0 where
@@ -35,8 +36,8 @@ module _ {S : Type 0} (lines : S → ℕ) (ready : S → ℕ → ℕ → Bool) (
   }
 
   module _ (y z : Core S) (k tag : ℕ) (v : ℕ × ℕ) (s : Sparing v.1 y) where
-    taken_by : (b : Bool) (r : Result Answer Refusal) → permits lines ready ceiling left y k ≡ b → r ≡ Ok (told b) → z.state ≡ raised_state y.board y.state k tag b
-        → Becomes lines ready ceiling left b y.monitor k y.state.instant z.monitor → (r ≡ Ok Permitted → spent y.monitor k y.state.instant z.monitor)
+    taken_by : (b : Bool) (r : Result Answer Refusal) → permits means y k ≡ b → r ≡ Ok (told b) → z.state ≡ raised_state y.board y.state k tag b
+        → Becomes means b y.monitor k y.state.instant z.monitor → (r ≡ Ok Permitted → spent y.monitor k y.state.instant z.monitor)
         → Sparing (noting k r v).1 z
     taken_by true r may e f becomes once =
         subst (λ (q : Result Answer Refusal). Sparing (noting k q v).1 z) (sym e)
@@ -49,20 +50,20 @@ module _ {S : Type 0} (lines : S → ℕ) (ready : S → ℕ → ℕ → Bool) (
               subst (λ (n : S). spent n k t z.monitor) none.1 (subst (λ (u : ℕ). spent y.monitor k u z.monitor) s.still (once e)),
               ap (λ (x : State). is_some x.granted) f,
             )
-            | inr some ↦ absurd (grind (arith, asks_closed (in_foreign_slot y.board y.state k) (is_some y.state.granted) (ready y.monitor k y.state.instant) may, some.3))
+            | inr some ↦ absurd (grind (arith, asks_closed (in_foreign_slot y.board y.state k) (is_some y.state.granted) (means.ready y.monitor k y.state.instant) may, some.3))
           ];
         })
     taken_by false r may e f becomes once =
         subst (λ (q : Result Answer Refusal). Sparing (noting k q v).1 z) (sym e)
         (spares_all v.1 y z (ap (λ (x : State). x.instant) f) becomes (ap (λ (x : State). x.granted) f) s)
 
-    raised_by : (f : Option Refusal) (r : Result Answer Refusal) → RaisedBy lines ready ceiling left f y k tag r z
+    raised_by : (f : Option Refusal) (r : Result Answer Refusal) → RaisedBy means f y k tag r z
         → (r ≡ Ok Permitted → spent y.monitor k y.state.instant z.monitor) → Sparing (noting k r v).1 z
     raised_by (Some f) r h once =
         subst (λ (q : Result Answer Refusal). Sparing (noting k q v).1 z) (sym h.0) (subst (λ (x : Core S). Sparing v.1 x) (sym h.1) s)
-    raised_by None r h once = taken_by (permits lines ready ceiling left y k) r refl h.answered h.state_after h.monitor_after once
+    raised_by None r h once = taken_by (permits means y k) r refl h.answered h.state_after h.monitor_after once
 
     -- a line more is raised
-    pub sparing_more : (mask : ℕ) (r : Result Answer Refusal) → Raised lines ready ceiling left y mask k tag r z
+    pub sparing_more : (mask : ℕ) (r : Result Answer Refusal) → Raised means y mask k tag r z
         → (r ≡ Ok Permitted → spent y.monitor k y.state.instant z.monitor) → Sparing (noting k r v).1 z
     sparing_more mask r h once = raised_by (raise_fault y.board y.state mask k) r h once

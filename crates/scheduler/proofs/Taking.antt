@@ -1,4 +1,4 @@
--- Taking an event: the line that was found, and the state that it leads to.
+-- Taking an event: the state that it leads to.
 use Rattle.std.proofs.Common.{◌≡◌, ℕ, ◌+◌, ◌<◌, Bool, true, false, cond, not, ltb, List, [], ◌∷◌, ◌++◌, Some, None, Option, refl, ap, ◌∙◌, arith}
 use mathlib.Core.Path.{fun_ext}
 use Rattle.std.proofs.lemmas.Bool.Decides.{nat_tests}
@@ -8,14 +8,6 @@ use Rattle.model.specs.Board.{Layout, line_at, serves}
 use Rattle.model.specs.Tick.{State, Grant, put}
 use Rattle.model.specs.Core.{fresh_grant, raised_state}
 use Rattle.scheduler.proofs.Bursts.{state_path}
-
--- a line that was found is the board's
-pub found : (n k : ℕ) (l m : Line) → Some l ≡ cond (ltb k n) (Some m) None → (k < n) × (l ≡ m)
-found n k l m h = by (ltb k n) refl h
-  where
-    by : (t : Bool) → ltb k n ≡ t → Some l ≡ cond t (Some m) None → (k < n) × (l ≡ m)
-    by true is e = (grind (arith, nat_tests), cc)
-    by false is e = let z : ◌≡◌ {A = ℕ} 0 1 = cc in absurd (omega arith)
 
 module _ (b : Layout) (s : State) (k tag : ℕ) (permitted : Bool) where
   taken_by : Line → State

@@ -1,7 +1,7 @@
 -- The definitions that the contracts cite.
 pub mod Stretches
 pub mod Slots
-pub mod Buffers
+pub mod Strips
 pub mod View
 pub mod Works
 pub mod Ticking

@@ -1,7 +1,8 @@
 // The mask: a word that the caller keeps, and lends to the calls that raise. A set bit closes its line.
-ghost use Rattle.std.specs.Prelude.{◌≡◌};
+ghost use Rattle.std.specs.Prelude.{◌≡◌, ◌<◌};
+ghost use Rattle.model.specs.Bits.{is_set};
 
-#[derive(Clone, Copy)]
+#[derive(Clone, Copy, PartialEq, Eq, Debug)]
 pub struct Mask {
     word: u16,
 }
@@ -25,5 +26,13 @@ impl Mask {
         ensures { result ≡ self.now.word }
     {
         self.word
+    }
+
+    // Whether a line is closed.
+    pub(crate) fn closes(&self, line: u32) -> bool
+        requires { line < 16 }
+        ensures { result ≡ is_set self.now.word line }
+    {
+        (self.word >> line) & 1 == 1
     }
 }

@@ -8,10 +8,9 @@ use parts::{Grant, Queues};
 mod bursts;
 mod taking;
 
-// The clock's last instant.
-const END: u32 = 4_000_000_000;
-
-// While work is owed no event leaves, and each brought at most 2000 ticks of it.
+// While work is owed no event leaves, and each brought at most 2000 ticks of it. Five calls that change the tables promise that the
+// board stays: handed to them beside the tables, it would be one argument more in eight calls, which is no plainer. Those that run
+// ticks ask that these end by the clock's end, which ties an argument to the instant, so that no type of either can say it.
 #[derive(Drop)]
 pub struct Tables {
     board: Board,

@@ -1,4 +1,3 @@
 -- The lemmas that the answers cite.
-pub mod Finding
+pub mod Cutting
 pub mod Numbers
-pub mod Parting

@@ -2,6 +2,7 @@
 pub mod Cursor
 pub mod Faults
 pub mod Firsts
+pub mod Pieces
 pub mod Reading
 pub mod Scan
 pub mod Words

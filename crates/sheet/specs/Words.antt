@@ -1,26 +1,19 @@
 -- The words that are left of a line, and how many of them there must be: what the steps of reading say.
-use Rattle.std.specs.Prelude.{ℕ, cond, List, [], ◌∷◌, Some, None, Ok, Err, Option, Result}
+use Rattle.std.specs.Prelude.{ℕ, List, [], ◌∷◌, Some, None, Ok, Err, Option, Result}
 use Rattle.sheet.specs.declared.fault.Fault.{Fault}
 use Rattle.sheet.specs.declared.fault.Fault.TheVariants.{Form}
-use Rattle.sheet.specs.declared.words.Line.{Line}
 use Rattle.sheet.specs.declared.words.Word.{Word}
 use Rattle.sheet.specs.declared.words.Word.TheVariants.{Empty, Text}
 use Rattle.sheet.specs.declared.words.Words.{Words}
-use Rattle.sheet.specs.Reading.{Part, part, placed, words_of}
-
-abbrev pub line_of : Line → Part
-line_of line = part line.place line.bytes.now
+use Rattle.sheet.specs.Pieces.{rest_at, words_in}
+use Rattle.sheet.specs.Reading.{Part, part}
 
 abbrev pub part_of : Word → Part
 part_of (Empty place) = part place []
 part_of (Text place bytes) = part place bytes.now
 
-abbrev pub seen : Option Word → Option Part
-seen (Some word) = Some (part_of word)
-seen None = None
-
 abbrev pub words_left : Words → List Part
-words_left ws = cond ws.more (placed ws.place (words_of ws.rest.now)) []
+words_left ws = words_in (rest_at ws.left)
 
 -- the byte of a word that has one byte
 abbrev pub only_byte : List ℕ → Option ℕ
@@ -32,6 +25,11 @@ only_byte (b ∷ c ∷ bs) = None
 abbrev pub no_more : List Part → Result (Unit {0}) Fault
 no_more [] = Ok tt
 no_more (extra ∷ ws) = Err (Form extra.place)
+
+-- the next word: a missing word is told at the line's end
+abbrev pub required : ℕ → List Part → Result Part Fault
+required end [] = Err (Form end)
+required end (w ∷ ws) = Ok w
 
 -- exactly one word: a missing word is told at the line's end
 abbrev pub exactly_one : ℕ → List Part → Result Part Fault

@@ -1,6 +1,6 @@
 // What a line of a sheet asks for.
 
-#[derive(Clone, Copy)]
+#[derive(Clone, Copy, PartialEq, Eq, Debug)]
 pub enum Command {
     // R: raise an event of a line
     Raise { line: u32, tag: u32 },

@@ -1,14 +1,15 @@
 // A sheet that is read line by line.
-ghost use Rattle.std.specs.Prelude.{◌+◌, ◌^◌, ◌<◌, ◌≤◌, length};
+ghost use Rattle.std.specs.Prelude.{◌≤◌};
+ghost use Rattle.std.specs.Option.{ForSome};
+
+use crate::piece::Piece;
 
 mod calls;
 
-// The bytes that are left and the place of the first of them, and how many lines were read.
+// What is left of the sheet, if anything is, and how many lines were read.
 #[derive(Drop)]
 pub struct Sheet<'a> {
-    place: usize,
-    rest: &'a [u8],
+    rest: Option<Piece<'a>>,
     number: usize,
-    ghost fits: { place + length rest.now < 2 ^ 64 },
-    ghost counted: { number ≤ place },
+    ghost counted: { ForSome rest (λ piece. number ≤ piece.place) },
 }

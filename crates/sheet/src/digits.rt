@@ -11,6 +11,7 @@ pub(crate) fn decimal(bytes: &[u8], limit: u32) -> Option<u32>
         return None;
     }
     let mut value: u32 = 0;
+    // a `for`: a `try_fold` would hold the same two tests and the same sum in a closure, and be no plainer
     for byte in bytes {
         if !byte.is_ascii_digit() {
             return None;

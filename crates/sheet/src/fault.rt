@@ -1,10 +1,11 @@
 // Why a line of a sheet is refused.
 ghost use Rattle.std.specs.Prelude.{◌≡◌};
 ghost use Rattle.sheet.specs.Faults.{fault_number, fault_place};
+ghost use Rattle.sheet.specs.declared.fault.Fault.TheVariants.{Declined};
 
 use model::Refusal;
 
-#[derive(Clone, Copy)]
+#[derive(Clone, Copy, PartialEq, Eq, Debug)]
 pub enum Fault {
     // a wrong letter or a wrong count of words, at this byte of the sheet
     Form(usize),
@@ -31,9 +32,16 @@ impl Fault {
         ensures { result ≡ fault_place self.now }
     {
         match self {
-            Fault::Form(byte) => *byte,
-            Fault::Number(byte) => *byte,
+            Fault::Form(byte) | Fault::Number(byte) => *byte,
             Fault::Declined(refusal) => refusal.place() as usize,
         }
+    }
+}
+
+impl From<Refusal> for Fault {
+    ghost from_gives = { λ r f. f ≡ Declined r };
+
+    fn from(reason: Refusal) -> Fault {
+        Fault::Declined(reason)
     }
 }

@@ -6,7 +6,7 @@ mod cursor;
 mod digits;
 mod fault;
 mod line;
-mod scan;
+mod piece;
 mod stands;
 mod words;
 

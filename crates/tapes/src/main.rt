@@ -5,20 +5,14 @@ mod boards;
 mod monitors;
 mod numbers;
 mod playing;
-mod printing;
 mod runs;
-mod trouble;
 
+use report::exit_code;
 use runs::all;
 use std::process::ExitCode;
-use trouble::Trouble;
+
+type Trouble = report::Trouble<model::Refusal>;
 
 fn main(rt: HostRuntime) -> ExitCode {
-    match all(&rt) {
-        Ok(()) => ExitCode::SUCCESS,
-        Err(trouble) => {
-            let _ = rt.eprintln(&trouble);
-            ExitCode::FAILURE
-        }
-    }
+    exit_code(&rt, all(&rt))
 }

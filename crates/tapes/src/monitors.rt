@@ -1,35 +1,17 @@
-// The monitors of the runs.
+// The monitor of sixteen lines.
 use budget::Budget;
 use distance::Distance;
 use model::Refusal;
 use monitor::Pair;
 use trail::Trail;
 
-pub type Four = Pair<Pair<Distance, Budget>, Pair<Trail, Distance>>;
+type Four = Pair<Pair<Distance, Budget>, Pair<Trail, Distance>>;
 
 pub type Sixteen = Pair<Pair<Four, Four>, Pair<Four, Four>>;
 
-pub fn distance(ticks: u32) -> Result<Distance, Refusal> {
-    let mut monitor = Distance::new();
-    monitor.set(ticks)?;
-    Ok(monitor)
-}
-
-pub fn trail(distances: &[u32]) -> Result<Trail, Refusal> {
-    let mut monitor = Trail::new();
-    monitor.set(distances)?;
-    Ok(monitor)
-}
-
-pub fn budget(permits: u32, period: u32) -> Result<Budget, Refusal> {
-    let mut monitor = Budget::new();
-    monitor.set(permits, period)?;
-    Ok(monitor)
-}
-
 fn four(near: u32, permits: u32, period: u32, far: u32) -> Result<Four, Refusal> {
-    let first = Pair::new(distance(near)?, budget(permits, period)?);
-    let second = Pair::new(trail(&[near, period])?, distance(far)?);
+    let first = Pair::new(Distance::of(near)?, Budget::of(permits, period)?);
+    let second = Pair::new(Trail::of(&[near, period])?, Distance::of(far)?);
     Ok(Pair::new(first, second))
 }
 

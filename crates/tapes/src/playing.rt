@@ -1,139 +1,122 @@
 // Calls on a core, each told in lines of text.
+ghost use Rattle.std.specs.Prelude.{◌≤◌};
+
+use crate::Trouble;
 use crate::numbers::Numbers;
-use crate::printing::{show_finished, show_refusal, show_span};
-use crate::trouble::Trouble;
-use model::{Answer, Finished, Kind, Span};
+use board::Board;
+use model::{Answer, Finished, Ran, Refusal, Span};
 use monitor::Monitor;
 use scheduler::{Core, Mask};
+use std::fmt;
 
-const SPAN: Span = Span {
-    first: 0,
-    ticks: 0,
-    kind: Kind::Application,
-    who: 0,
-    owner: 0,
-};
-
-const FINISHED: Finished = Finished {
-    tag: 0,
-    line: 0,
-    raised: 0,
-    at: 0,
-};
-
-pub fn raise<M: Monitor>(
-    rt: &impl Print,
-    core: &mut Core<M>,
-    mask: &Mask,
-    line: u32,
-    tag: u32,
-) -> Result<(), Trouble> {
-    match core.raise(mask, line, tag) {
-        Ok(Answer::Permitted) => println!(rt; "P")?,
-        Ok(Answer::Queued) => println!(rt; "Q")?,
-        Err(refusal) => show_refusal(rt, refusal)?,
-    }
-    Ok(())
+// A new core with its mask, and where its tape is printed.
+#[derive(Drop)]
+pub struct Tape<P, M: Monitor> {
+    rt: P,
+    core: Core<M>,
+    mask: Mask,
 }
 
-pub fn strobe<M: Monitor>(
-    rt: &impl Print,
-    core: &mut Core<M>,
-    mask: &Mask,
-    word: u16,
-    tag: u32,
-) -> Result<(), Trouble> {
-    let (taken, permitted) = core.strobe(mask, word, tag);
-    println!(rt; "W {taken} {permitted}")?;
-    Ok(())
-}
-
-// Advances with one of six choices of places.
-pub fn advance<M: Monitor>(
-    rt: &impl Print,
-    core: &mut Core<M>,
-    ticks: u32,
-    places: u32,
-) -> Result<(), Trouble> {
-    match places {
-        0 => advance_into(rt, core, ticks, &mut [SPAN; 1], &mut [FINISHED; 1]),
-        1 => advance_into(rt, core, ticks, &mut [SPAN; 2], &mut [FINISHED; 1]),
-        2 => advance_into(rt, core, ticks, &mut [SPAN; 4], &mut [FINISHED; 2]),
-        3 => advance_into(rt, core, ticks, &mut [SPAN; 8], &mut [FINISHED; 0]),
-        4 => advance_into(rt, core, ticks, &mut [SPAN; 0], &mut [FINISHED; 8]),
-        _ => advance_into(rt, core, ticks, &mut [SPAN; 16], &mut [FINISHED; 8]),
+// Six choices of places: for spans, and for finished events.
+fn places(choice: u32) -> (usize, usize)
+    ensures spans { result.0 ≤ 16 }
+    ensures finished { result.1 ≤ 8 }
+{
+    match choice {
+        0 => (1, 1),
+        1 => (2, 1),
+        2 => (4, 2),
+        3 => (8, 0),
+        4 => (0, 8),
+        _ => (16, 8),
     }
 }
 
-fn advance_into<M: Monitor>(
-    rt: &impl Print,
-    core: &mut Core<M>,
-    ticks: u32,
-    spans: &mut [Span],
-    finished: &mut [Finished],
-) -> Result<(), Trouble> {
-    match core.advance(ticks, spans, finished) {
-        Ok(ran) => {
-            let count = ran.ticks;
-            println!(rt; "A {count}")?;
-            for span in spans.iter().take(ran.spans) {
-                show_span(rt, *span)?;
-            }
-            for event in finished.iter().take(ran.finished) {
-                show_finished(rt, *event)?;
-            }
-        }
-        Err(refusal) => show_refusal(rt, refusal)?,
-    }
-    Ok(())
-}
-
-// Advances up to so many ticks in 300 calls, and tells only the instant reached.
-pub fn pass<M: Monitor>(rt: &impl Print, core: &mut Core<M>, ticks: u32) -> Result<(), Trouble> {
-    let mut rest = ticks;
-    for _ in 0..300u32 {
-        let ran = pass_once(core, rest)?;
-        rest = rest.wrapping_sub(ran);
-    }
-    let instant = core.instant();
-    println!(rt; "instant {instant}")?;
-    Ok(())
-}
-
-// The ticks run by one call that tells nothing.
-fn pass_once<M: Monitor>(core: &mut Core<M>, ticks: u32) -> Result<u32, Trouble> {
-    let ran = core.advance(ticks, &mut [SPAN; 16], &mut [FINISHED; 8])?;
-    Ok(ran.ticks)
-}
-
-// Calls drawn by lot: of lines below `lines`, and of fewer than `step` ticks.
-pub fn play<M: Monitor>(
-    rt: &impl Print,
-    core: &mut Core<M>,
-    seed: u32,
-    calls: u32,
-    lines: u32,
-    step: u32,
-) -> Result<(), Trouble> {
-    let mut numbers = Numbers::new(seed);
-    let mut mask = Mask::new();
-    for tag in 0..calls {
-        let choice = numbers.below(20);
-        if choice < 9 {
-            let line = numbers.below(lines);
-            raise(rt, core, &mask, line, tag)?;
-        } else if choice < 10 {
-            let word = numbers.word();
-            strobe(rt, core, &mask, word, tag)?;
-        } else if choice < 11 {
-            let word = numbers.word() & numbers.word() & numbers.word();
-            mask.set(word);
-            println!(rt; "M {word}")?;
-        } else {
-            let ticks = numbers.below(step);
-            let places = numbers.below(8);
-            advance(rt, core, ticks, places)?;
+impl<P: Print, M: Monitor> Tape<P, M> {
+    pub fn new(rt: P, board: Board, monitor: M) -> Tape<P, M> {
+        Tape {
+            rt,
+            core: Core::new(board, monitor),
+            mask: Mask::new(),
         }
     }
-    Ok(())
+
+    pub fn raise(&mut self, line: u32, tag: u32) -> Result<(), Trouble> {
+        match self.core.raise(&self.mask, line, tag) {
+            Ok(Answer::Permitted) => println!(self.rt; "P")?,
+            Ok(Answer::Queued) => println!(self.rt; "Q")?,
+            Err(refusal) => self.refused(refusal)?,
+        }
+        Ok(())
+    }
+
+    pub fn strobe(&mut self, word: u16, tag: u32) -> Result<(), Trouble> {
+        let (taken, permitted) = self.core.strobe(&self.mask, word, tag);
+        println!(self.rt; "W {taken} {permitted}")?;
+        Ok(())
+    }
+
+    pub fn close(&mut self, word: u16) -> Result<(), Trouble> {
+        self.mask.set(word);
+        println!(self.rt; "M {word}")?;
+        Ok(())
+    }
+
+    // Advances with one of the choices of places.
+    pub fn advance(&mut self, ticks: u32, choice: u32) -> Result<(), Trouble> {
+        let (span_places, event_places) = places(choice);
+        let spans = &mut [Span::BLANK; 16][..span_places];
+        let finished = &mut [Finished::BLANK; 8][..event_places];
+        match self.core.advance(ticks, spans, finished) {
+            Ok(ran) => self.ran(ran, spans, finished),
+            Err(refusal) => self.refused(refusal),
+        }
+    }
+
+    fn ran(&self, ran: Ran, spans: &[Span], finished: &[Finished]) -> Result<(), Trouble> {
+        let ticks = ran.ticks;
+        println!(self.rt; "A {ticks}")?;
+        self.first(spans, ran.spans)?;
+        self.first(finished, ran.finished)
+    }
+
+    // The first of these, a line each.
+    fn first<T: fmt::Display>(&self, items: &[T], count: usize) -> Result<(), Trouble> {
+        for item in items.iter().take(count) {
+            println!(self.rt; "{item}")?;
+        }
+        Ok(())
+    }
+
+    fn refused(&self, refusal: Refusal) -> Result<(), Trouble> {
+        let (number, place) = (refusal.number(), refusal.place());
+        println!(self.rt; "E {number} {place}")?;
+        Ok(())
+    }
+
+    // Advances to an instant in 300 calls, and tells only the instant reached.
+    pub fn pass(&mut self, until: u32) -> Result<(), Trouble> {
+        for _ in 0..300u32 {
+            let rest = until.saturating_sub(self.core.instant());
+            self.core
+                .advance(rest, &mut [Span::BLANK; 16], &mut [Finished::BLANK; 8])?;
+        }
+        let instant = self.core.instant();
+        println!(self.rt; "instant {instant}")?;
+        Ok(())
+    }
+
+    // Calls drawn by lot: of lines below `lines`, and of fewer than `step` ticks.
+    pub fn play(&mut self, seed: u32, calls: u32, lines: u32, step: u32) -> Result<(), Trouble> {
+        let mut numbers = Numbers::new(seed);
+        for tag in 0..calls {
+            match numbers.below(20) {
+                0..=8 => self.raise(numbers.below(lines), tag)?,
+                9 => self.strobe(numbers.word(), tag)?,
+                10 => self.close(numbers.word() & numbers.word() & numbers.word())?,
+                _ => self.advance(numbers.below(step), numbers.below(8))?,
+            }
+        }
+        Ok(())
+    }
 }

@@ -1,6 +1,6 @@
 -- Sums, smallest values and tests over the numbers below n, one place at a time and place by place.
-use Rattle.std.specs.Prelude.{◌≡◌, ℕ, zero, suc, ◌+◌, ◌-◌, ◌*◌, ◌<◌, ◌≤◌, min, Bool, true, false, refl}
-use Rattle.std.proofs.Common.{⊎_elim, le_refl, add-one, arith}
+use Rattle.std.specs.Prelude.{◌≡◌, ℕ, zero, suc, ◌+◌, ◌-◌, ◌*◌, ◌<◌, ◌≤◌, min, Bool, true, false, MatchBool, refl}
+use Rattle.std.proofs.Common.{⊎_elim, le_refl, sym, add-one, arith}
 use Rattle.std.proofs.lemmas.Bool.{and_parts, and_left, and_right, cases_lt}
 use Rattle.std.proofs.lemmas.Bool.Decides.{nat_tests}
 use Rattle.model.specs.Counting.{sum_to, least, all_to}
@@ -76,3 +76,14 @@ least_more (suc n) f x y some e h =
     let was : suc n - 1 ≡ n = omega arith in
     let e' = rw was at e in
     rw (is, e', h) refl
+
+-- a test that passes at each place
+all_of : (n : ℕ) (g : ℕ → Bool) → ((i : ℕ) → i < n → g i ≡ true) → all_to n g ≡ true
+unfolding all_to
+all_of zero g h = refl
+all_of (suc n) g h = rw (add-one n) at (all_more n g (all_of n g (λ i l. h i (omega arith))) (h n (omega arith)))
+
+-- a test over all places, by what is known of each: it passes everywhere, or it fails at one
+pub all_is : (n : ℕ) (g : ℕ → Bool) (r : Bool) → MatchBool r ((i : ℕ) → i < n → g i ≡ true) ((i : ℕ) × (i < n) × (g i ≡ false)) → r ≡ all_to n g
+all_is n g true h = sym (all_of n g h)
+all_is n g false (i, l, h) = sym (all_fails n g i l h)

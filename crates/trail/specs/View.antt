@@ -1,7 +1,6 @@
 -- What a trail holds, as its plain state.
-use Rattle.std.specs.Prelude.{take}
 use Rattle.trail.specs.Trail.{TrailState}
 use Rattle.trail.specs.declared.trail.Trail.{Trail}
 
 abbrev pub trail_state : Trail → TrailState
-trail_state m = record { distances = take m.count m.distances; permits = m.permits }
+trail_state m = record { distances = m.distances.items; permits = m.permits }

@@ -1,18 +1,20 @@
 // A monitor of one line that keeps a distance to each of its latest permits.
-ghost use Rattle.std.specs.Prelude.{◌≡◌, ◌≤◌, false, length, take, is_some};
+ghost use Rattle.std.specs.Prelude.{◌≡◌, false, length, is_some};
 ghost use Rattle.trail.specs.Trail.{trail_fault};
 
 mod calls;
-mod table;
+mod checks;
 
-// Distances past the count are not part of the trail; the permits are the latest, the latest first.
+use arrayvec::ArrayVec;
+
+// How many distances a trail can keep, and how many permits it does.
+const MOST: usize = 5;
+
+// The permits are the latest, the latest first: always MOST of them, so that a permit is one turn of the table.
 #[derive(Drop)]
 pub struct Trail {
-    count: usize,
-    distances: [u32; 5],
-    permits: [Option<u32>; 5],
-    ghost few: { count ≤ 5 },
-    ghost whole: { length distances ≡ 5 },
+    distances: ArrayVec<u32, MOST>,
+    permits: [Option<u32>; MOST],
     ghost kept: { length permits ≡ 5 },
-    ghost in_range: { is_some (trail_fault (take count distances)) ≡ false },
+    ghost in_range: { is_some (trail_fault distances.items) ≡ false },
 }

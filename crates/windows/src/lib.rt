@@ -12,12 +12,12 @@ pub const END: u32 = 4_000_000_000;
 pub const LONGEST: u32 = 1_000_000_000;
 
 // How many instants there are.
-const INSTANTS: u64 = 4_000_000_001;
+const INSTANTS: u64 = END as u64 + 1;
 
 pub fn in_range(low: u32, high: u32, number: u32) -> bool
     ensures { result ≡ in_range low high number }
 {
-    low <= number && number <= high
+    (low..=high).contains(&number)
 }
 
 // A window longer than all instants counts as all of them.
@@ -35,6 +35,5 @@ pub fn lengths(window: u64, length: u32) -> u64
     if length == 0 {
         return 0;
     }
-    let length = u64::from(length);
-    (cut(window) + (length - 1)) / length
+    cut(window).div_ceil(u64::from(length))
 }

@@ -1,12 +1,16 @@
 // Filling a board, and the questions that it answers.
-ghost use Rattle.std.specs.Prelude.{◌≡◌, [], ◌∷◌, length, if◌then◌else◌, Ok, Err, nat_lt};
+ghost use Rattle.std.specs.Prelude.{◌≡◌, ◌%◌, ◌==◌, [], ◌∷◌, length, if◌then◌else◌, Some, Ok, Err, MatchResult, nat_lt};
+ghost use Rattle.std.specs.List.{list_all};
 ghost use Rattle.model.specs.declared.refusal.Refusal.TheVariants.{NoSuch};
 ghost use Rattle.model.specs.Board.{layout, fault, cycle, owner_at, own, full_cost};
 ghost use Rattle.model.specs.Calls.{Replaced};
-ghost use Rattle.board.specs.Held.{held};
+ghost use Rattle.board.specs.Held.{held, given};
+ghost use Rattle.board.specs.Slots.{InSlot, slot_from};
 
-use super::{Board, owned_in, owner_in, sum_of, table_of};
+use super::{Board, owned_in, slot_in, sum_of};
 use crate::checks::check;
+use crate::layout::Layout;
+use arrayvec::ArrayVec;
 use model::{Line, Overheads, Refusal, Slot};
 
 impl Board {
@@ -14,55 +18,47 @@ impl Board {
     pub fn new() -> Board
         ensures { held result ≡ layout 1 (record { owner = 0; ticks = 1 } ∷ []) [] (record { check = 0; reschedule = 0; switch = 0 }) }
     {
-        let slot = Slot { owner: 0, ticks: 1 };
-        let line = Line {
-            owner: 0,
-            top: 0,
-            handler: 0,
-        };
-        Board {
+        let layout = Layout {
             partitions: 1,
-            slots: [slot; 16],
-            slot_count: 1,
-            lines: [line; 16],
-            line_count: 0,
-            overheads: Overheads {
-                check: 0,
-                reschedule: 0,
-                switch: 0,
-            },
-            cycle: 1,
-        }
+            slots: &[Slot { owner: 0, ticks: 1 }],
+            lines: &[],
+            overheads: Overheads::default(),
+        };
+        Board::of(layout).unwrap()
+    }
+
+    // The board of these numbers, or the first check that fails.
+    pub fn of(layout: Layout) -> Result<Board, Refusal>
+        ensures { MatchResult result (λ b. held b ≡ given layout.entry) (λ e. fault (given layout.entry) ≡ Some e) }
+    {
+        check(layout)?;
+        Ok(Board {
+            partitions: layout.partitions,
+            slots: ArrayVec::try_from(layout.slots).unwrap(),
+            lines: ArrayVec::try_from(layout.lines).unwrap(),
+            overheads: layout.overheads,
+            cycle: sum_of(layout.slots),
+        })
     }
 
     // Replaces the whole board, or refuses with the first check that fails and leaves it as it was.
-    pub fn fill(
-        &mut self,
-        partitions: u8,
-        slots: &[Slot],
-        lines: &[Line],
-        overheads: Overheads,
-    ) -> Result<(), Refusal>
-        ensures { Replaced held (fault (layout partitions slots.now lines.now overheads)) (layout partitions slots.now lines.now overheads) self.old result self.new }
+    pub fn fill(&mut self, layout: Layout) -> Result<(), Refusal>
+        ensures { Replaced held (fault (given layout.entry)) (given layout.entry) self.old result self.new }
     {
-        check(partitions, slots, lines, overheads)?;
-        *self = Board {
-            partitions,
-            slots: table_of(Slot { owner: 0, ticks: 1 }, slots),
-            slot_count: slots.len(),
-            lines: table_of(
-                Line {
-                    owner: 0,
-                    top: 0,
-                    handler: 0,
-                },
-                lines,
-            ),
-            line_count: lines.len(),
-            overheads,
-            cycle: sum_of(slots),
-        };
+        *self = Board::of(layout)?;
         Ok(())
+    }
+
+    // What it was made of.
+    pub fn layout(&self) -> Layout<'_>
+        ensures { given result ≡ held self.now }
+    {
+        Layout {
+            partitions: self.partitions,
+            slots: &self.slots,
+            lines: &self.lines,
+            overheads: self.overheads,
+        }
     }
 
     pub fn partitions(&self) -> u8
@@ -74,13 +70,13 @@ impl Board {
     pub fn slots(&self) -> &[Slot]
         ensures { result.now ≡ (held self.now).slots }
     {
-        &self.slots[0..self.slot_count]
+        &self.slots
     }
 
     pub fn lines(&self) -> &[Line]
         ensures { result.now ≡ (held self.now).lines }
     {
-        &self.lines[0..self.line_count]
+        &self.lines
     }
 
     pub fn overheads(&self) -> Overheads
@@ -96,11 +92,26 @@ impl Board {
         self.cycle
     }
 
+    // The owner at an instant, and the ticks that are left of its slot from there.
+    pub fn slot_at(&self, at: u32) -> Slot
+        ensures value { result ≡ slot_from (held self.now).slots (at % cycle (held self.now)) }
+        ensures in_slot { InSlot (held self.now).slots (at % cycle (held self.now)) result.owner result.ticks }
+    {
+        slot_in(&self.slots, at % self.cycle)
+    }
+
     // The owner of the slot at an instant.
     pub fn owner_at(&self, at: u32) -> u8
         ensures { result ≡ owner_at (held self.now) at }
     {
-        owner_in(self.slots(), at % self.cycle)
+        self.slot_at(at).owner
+    }
+
+    // Whether one partition owns every slot.
+    pub fn is_owned_by(&self, owner: u8) -> bool
+        ensures { result ≡ list_all (λ s. s.owner == owner) (held self.now).slots }
+    {
+        self.slots.iter().all(|slot| slot.owner == owner)
     }
 
     // The ticks of each cycle that belong to a partition.
@@ -110,18 +121,14 @@ impl Board {
         if partition >= u32::from(self.partitions) {
             return Err(Refusal::NoSuch(partition));
         }
-        Ok(owned_in(partition, self.slots()))
+        Ok(owned_in(partition, &self.slots))
     }
 
     // All that a grant of a line takes: its handler, rescheduling, a switch there and back.
     pub fn full_cost(&self, line: u32) -> Result<u32, Refusal>
         ensures { result ≡ (if nat_lt line (length (held self.now).lines) then Ok (full_cost (held self.now) line) else Err (NoSuch line)) }
     {
-        let lines = self.lines();
-        if line as usize >= lines.len() {
-            return Err(Refusal::NoSuch(line));
-        }
-        let grant = u32::from(self.overheads.reschedule) + 2 * u32::from(self.overheads.switch);
-        Ok(u32::from(lines[line as usize].handler) + grant)
+        let granted = self.lines.get(line as usize).ok_or(Refusal::NoSuch(line))?;
+        Ok(u32::from(granted.handler) + self.overheads.grant())
     }
 }

@@ -1,7 +1,8 @@
 // Setting a budget, and what it answers as a monitor.
-ghost use Rattle.std.specs.Prelude.{◌≡◌, ◌/◌, true, if◌then◌else◌};
+ghost use Rattle.std.specs.Prelude.{◌≡◌, ◌/◌, true, MatchResult, if◌then◌else◌};
 ghost use Rattle.model.specs.Calls.{Replaced};
 ghost use Rattle.model.specs.Monitor.{Asked};
+ghost use Rattle.monitor.specs.Meanings.{meaning};
 ghost use Rattle.budget.specs.Budget.{used_in, budget_ready, budget_ceiling, budget_left, budget_after, budget_fault, budget_new};
 ghost use Rattle.budget.specs.View.{budget_state};
 ghost use Rattle.budget.specs.Budgets.{budget_laws};
@@ -15,17 +16,13 @@ impl Budget {
     pub fn new() -> Budget
         ensures { budget_state result ≡ budget_new 1 1000000000 }
     {
-        Budget {
-            permits: 1,
-            period: LONGEST,
-            latest: 0,
-            used: 0,
-        }
+        Budget::of(1, LONGEST).unwrap()
     }
 
-    // Replaces the permits per period and the period, and forgets the permits given.
-    pub fn set(&mut self, permits: u32, period: u32) -> Result<(), Refusal>
-        ensures { Replaced budget_state (budget_fault permits period) (budget_new permits period) self.old result self.new }
+    // A new one that gives so many permits per period, if both are in range.
+    pub fn of(permits: u32, period: u32) -> Result<Self, Refusal>
+        ensures { MatchResult result
+            (λ m. budget_state m ≡ budget_new permits period) (λ e. budget_fault permits period ≡ Some e) }
     {
         if !in_range(1, 64, permits) {
             return Err(Refusal::Setting(0));
@@ -33,12 +30,19 @@ impl Budget {
         if !in_range(1, LONGEST, period) {
             return Err(Refusal::Setting(1));
         }
-        *self = Budget {
+        Ok(Budget {
             permits: permits as u8,
             period,
             latest: 0,
             used: 0,
-        };
+        })
+    }
+
+    // Replaces the permits per period and the period, and forgets the permits given.
+    pub fn set(&mut self, permits: u32, period: u32) -> Result<(), Refusal>
+        ensures { Replaced budget_state (budget_fault permits period) (budget_new permits period) self.old result self.new }
+    {
+        *self = Self::of(permits, period)?;
         Ok(())
     }
 
@@ -54,6 +58,9 @@ impl Budget {
     }
 }
 
+// Each kind of one line says so itself. One impl by a trait of rules would ask nearly as many members of each kind (the rule, the
+// ceiling, what is left, what a permit makes of it, their laws) to spare it a number and three tests; a wrapper would change its
+// type.
 impl Monitor for Budget {
     ghost lines = { λ m. 1 };
 
@@ -72,10 +79,7 @@ impl Monitor for Budget {
     }
 
     fn ready(&self, line: u32, at: u32) -> bool {
-        if line != 0 || at > END || at < self.latest {
-            return false;
-        }
-        self.used_at(at) < self.permits
+        line == 0 && at <= END && at >= self.latest && self.used_at(at) < self.permits
     }
 
     fn ceiling(&self, line: u32, window: u64) -> u64 {
@@ -87,9 +91,7 @@ impl Monitor for Budget {
     }
 
     fn ask(&mut self, line: u32, at: u32) -> bool
-        ensures asked { Asked
-            (λ m. 1) (λ m. budget_ready (budget_state m)) (λ m. budget_ceiling (budget_state m)) (λ m. budget_left (budget_state m))
-            self.old line at result self.new }
+        ensures asked { Asked (meaning ⟦<Budget as Monitor>⟧) self.old line at result self.new }
         ensures after { budget_state self.new
             ≡ (if result then budget_after (budget_state self.old) at else budget_state self.old) }
         ensures once { result ≡ true → budget_state self.new ≡ budget_after (budget_state self.old) at }

@@ -1,8 +1,10 @@
 // Monitors asked one instant after the other.
-use super::given::{budget, distance, trail};
+use budget::Budget;
+use distance::Distance;
 use monitor::{Joint, Monitor, Pair};
 use std::process::Abort;
 use std::test::Fail;
+use trail::Trail;
 
 // The clock's end, the instants before and past it, and the last that a caller can name.
 const BEFORE: u32 = 3_999_999_999;
@@ -11,7 +13,7 @@ const END: u32 = 4_000_000_000;
 
 const PAST: u32 = 4_000_000_001;
 
-const LAST: u32 = 4_294_967_295;
+const LAST: u32 = u32::MAX;
 
 // Asks for a line at an instant. The answer is as expected, and after a yes no earlier instant is ready.
 fn check_one<M: Monitor>(rt: &impl Abort, monitor: &mut M, line: u32, at: u32, expected: bool) {
@@ -26,35 +28,32 @@ fn check_one<M: Monitor>(rt: &impl Abort, monitor: &mut M, line: u32, at: u32, e
 
 // Asks in turn for a line at an instant, with the answer expected.
 fn check_asked<M: Monitor>(rt: &impl Abort, monitor: &mut M, asked: &[(u32, u32, bool)]) {
-    for (line, at, expected) in asked.iter() {
+    for (line, at, expected) in asked {
         check_one(rt, monitor, *line, *at, *expected);
     }
 }
 
 // Asks in turn for line 0 at these instants; the permits are those expected, in their order.
 fn check_permits<M: Monitor>(rt: &impl Abort, monitor: &mut M, asked: &[u32], permits: &[u32]) {
-    let mut given = 0;
-    for at in asked.iter() {
-        let expected = given < permits.len() && permits[given] == *at;
+    let mut permits = permits.iter().peekable();
+    for at in asked {
+        let expected = permits.next_if_eq(&at).is_some();
         check_one(rt, monitor, 1, *at, false);
         check_one(rt, monitor, 0, *at, expected);
-        if expected {
-            given += 1;
-        }
     }
-    assert_eq!(rt; given, permits.len());
+    assert!(rt; permits.next().is_none());
 }
 
 #[test]
 fn distances_answer(rt: HostRuntime) -> Result<(), Fail> {
-    let mut far = distance(100)?;
+    let mut far = Distance::of(100)?;
     check_permits(
         &rt,
         &mut far,
         &[0, 0, 99, 100, 50, 250, 349, 350, BEFORE, END, PAST],
         &[0, 100, 250, 350, BEFORE],
     );
-    let mut near = distance(1)?;
+    let mut near = Distance::of(1)?;
     check_permits(
         &rt,
         &mut near,
@@ -66,7 +65,7 @@ fn distances_answer(rt: HostRuntime) -> Result<(), Fail> {
 
 #[test]
 fn trails_answer(rt: HostRuntime) -> Result<(), Fail> {
-    let mut two = trail(&[10, 40])?;
+    let mut two = Trail::of(&[10, 40])?;
     check_permits(
         &rt,
         &mut two,
@@ -79,7 +78,7 @@ fn trails_answer(rt: HostRuntime) -> Result<(), Fail> {
         &[200, 210, 239, 240, END, PAST],
         &[200, 210, 240, END],
     );
-    let mut five = trail(&[2, 5, 5, 20, 100])?;
+    let mut five = Trail::of(&[2, 5, 5, 20, 100])?;
     check_permits(
         &rt,
         &mut five,
@@ -97,14 +96,14 @@ fn trails_answer(rt: HostRuntime) -> Result<(), Fail> {
 
 #[test]
 fn budgets_answer(rt: HostRuntime) -> Result<(), Fail> {
-    let mut one = budget(1, 50)?;
+    let mut one = Budget::of(1, 50)?;
     check_permits(
         &rt,
         &mut one,
         &[49, 50, 99, 49, 100, 149, 150, 249, 250, 251, 299, END],
         &[49, 50, 100, 150, 249, 250, END],
     );
-    let mut three = budget(3, 10)?;
+    let mut three = Budget::of(3, 10)?;
     check_permits(
         &rt,
         &mut three,
@@ -123,7 +122,7 @@ fn budgets_answer(rt: HostRuntime) -> Result<(), Fail> {
 #[test]
 fn joints_answer(rt: HostRuntime) -> Result<(), Fail> {
     // a no of the budget leaves the distance as it was
-    let mut spent = Joint::new(distance(30)?, budget(1, 50)?);
+    let mut spent = Joint::new(Distance::of(30)?, Budget::of(1, 50)?);
     check_permits(
         &rt,
         &mut spent,
@@ -131,7 +130,7 @@ fn joints_answer(rt: HostRuntime) -> Result<(), Fail> {
         &[0, 50, 100],
     );
     // a no of the distance leaves the budget as it was
-    let mut close = Joint::new(distance(60)?, budget(1, 50)?);
+    let mut close = Joint::new(Distance::of(60)?, Budget::of(1, 50)?);
     check_permits(
         &rt,
         &mut close,
@@ -140,8 +139,8 @@ fn joints_answer(rt: HostRuntime) -> Result<(), Fail> {
     );
     // of the second only line 0 counts
     let mut deep = Joint::new(
-        Joint::new(distance(7)?, trail(&[3, 50])?),
-        Pair::new(budget(2, 40)?, distance(1_000_000)?),
+        Joint::new(Distance::of(7)?, Trail::of(&[3, 50])?),
+        Pair::new(Budget::of(2, 40)?, Distance::of(1_000_000)?),
     );
     check_permits(
         &rt,
@@ -197,8 +196,8 @@ const PAIR_OF_JOINT: [(u32, u32, bool); 33] = [
 
 #[test]
 fn pairs_of_joints_answer(rt: HostRuntime) -> Result<(), Fail> {
-    let limited = Joint::new(distance(10)?, budget(2, 50)?);
-    let mut monitor = Pair::new(limited, Pair::new(trail(&[5, 30])?, distance(100)?));
+    let limited = Joint::new(Distance::of(10)?, Budget::of(2, 50)?);
+    let mut monitor = Pair::new(limited, Pair::new(Trail::of(&[5, 30])?, Distance::of(100)?));
     assert_eq!(rt; monitor.lines(), 3);
     check_asked(&rt, &mut monitor, &PAIR_OF_JOINT);
     Ok(())
@@ -235,7 +234,10 @@ const JOINT_OF_PAIR: [(u32, u32, bool); 25] = [
 
 #[test]
 fn joints_of_pairs_answer(rt: HostRuntime) -> Result<(), Fail> {
-    let mut monitor = Joint::new(Pair::new(distance(10)?, trail(&[5, 20])?), budget(3, 100)?);
+    let mut monitor = Joint::new(
+        Pair::new(Distance::of(10)?, Trail::of(&[5, 20])?),
+        Budget::of(3, 100)?,
+    );
     assert_eq!(rt; monitor.lines(), 2);
     check_asked(&rt, &mut monitor, &JOINT_OF_PAIR);
     Ok(())

@@ -1,67 +1,46 @@
 // Boards at both ends of every range, and what comes first where several numbers are wrong.
-use super::given::{board_k, line, overheads, slot, told};
-use board::Board;
+use super::given::told;
+use board::{Board, Layout};
+use example::board_k;
 use model::{Line, Overheads, Slot};
+use std::array;
 use std::process::Abort;
-use std::test::Fail;
 
-// Whether a board answers by these numbers.
-fn check_holds(
-    rt: &impl Abort,
-    board: &Board,
-    partitions: u8,
-    slots: &[Slot],
-    lines: &[Line],
-    overheads: Overheads,
-) {
-    assert_eq!(rt; board.partitions(), partitions);
-    assert_eq!(rt; board.slots().len(), slots.len());
-    for (held, given) in board.slots().iter().zip(slots.iter()) {
-        assert!(rt; held.owner == given.owner && held.ticks == given.ticks);
-    }
-    assert_eq!(rt; board.lines().len(), lines.len());
-    for (held, given) in board.lines().iter().zip(lines.iter()) {
-        assert!(rt;
-            held.owner == given.owner && held.top == given.top && held.handler == given.handler
-        );
-    }
-    let held = board.overheads();
-    assert_eq!(rt; held.check, overheads.check);
-    assert_eq!(rt; held.reschedule, overheads.reschedule);
-    assert_eq!(rt; held.switch, overheads.switch);
+// What a new board holds.
+const LEAST: Layout<'static> = Layout {
+    partitions: 1,
+    slots: &[Slot { owner: 0, ticks: 1 }],
+    lines: &[],
+    overheads: Overheads {
+        check: 0,
+        reschedule: 0,
+        switch: 0,
+    },
+};
+
+// The layout that a board tells is this one, whole and part by part.
+fn check_holds(rt: &impl Abort, board: &Board, layout: Layout) {
+    assert_eq!(rt; board.layout(), layout);
+    let parts = Layout {
+        partitions: board.partitions(),
+        slots: board.slots(),
+        lines: board.lines(),
+        overheads: board.overheads(),
+    };
+    assert_eq!(rt; parts, layout);
 }
 
 // Fills board K anew: it is replaced where no refusal is expected, and else it is as before.
-fn refill(
-    rt: &impl Abort,
-    partitions: u8,
-    slots: &[Slot],
-    lines: &[Line],
-    overheads: Overheads,
-    expected: Result<(), (u8, u32)>,
-) -> Result<(), Fail> {
-    let mut board = board_k()?;
-    let answer = told(board.fill(partitions, slots, lines, overheads));
-    assert_eq!(rt;
-        answer,
-        expected,
-        "{partitions} partitions, {slots:?}, {lines:?}, {overheads:?}"
-    );
+fn refill(rt: &impl Abort, layout: Layout, expected: Result<(), (u8, u32)>) {
+    let mut board = board_k();
+    let answer = told(board.fill(layout));
+    assert_eq!(rt; answer, expected, "{layout:?}");
     if answer.is_ok() {
-        check_holds(rt, &board, partitions, slots, lines, overheads);
-        return Ok(());
+        check_holds(rt, &board, layout);
+    } else {
+        check_holds(rt, &board, board_k().layout());
+        assert_eq!(rt; board.cycle(), 16);
     }
-    let before = board_k()?;
-    check_holds(
-        rt,
-        &board,
-        before.partitions(),
-        before.slots(),
-        before.lines(),
-        before.overheads(),
-    );
-    assert_eq!(rt; board.cycle(), 16);
-    Ok(())
 }
 
 // Partitions, slots and lines.
@@ -83,22 +62,30 @@ const COUNTS: [(u8, usize, usize, Result<(), (u8, u32)>); 14] = [
 ];
 
 #[test]
-fn counts_have_ends(rt: HostRuntime) -> Result<(), Fail> {
-    let slots = [slot(0, 1); 17];
-    let lines = [line(0, 1, 1); 17];
+fn counts_have_ends(rt: HostRuntime) {
+    let slots = [Slot::new(0, 1); 17];
+    let lines = [Line::new(0, 1, 1); 17];
     for (partitions, slot_count, line_count, expected) in COUNTS {
         assert!(rt; slot_count <= 17 && line_count <= 17);
-        let (few_slots, few_lines) = (&slots[0..slot_count], &lines[0..line_count]);
-        refill(
-            &rt,
+        let layout = Layout {
             partitions,
-            few_slots,
-            few_lines,
-            overheads(0, 0, 0),
-            expected,
-        )?;
+            slots: &slots[..slot_count],
+            lines: &lines[..line_count],
+            ..LEAST
+        };
+        refill(&rt, layout, expected);
     }
-    Ok(())
+}
+
+// A board of three partitions.
+const THREE: Layout<'static> = Layout {
+    partitions: 3,
+    ..LEAST
+};
+
+// Fifteen usual ones, and another at this place.
+fn among<T: Copy>(usual: T, other: T, place: u32) -> [T; 16] {
+    array::from_fn(|i| if i == place as usize { other } else { usual })
 }
 
 // Owner and length, on a board of three partitions, and whether they fit.
@@ -113,17 +100,16 @@ const SLOTS: [(u8, u32, bool); 8] = [
     (3, 0, false),
 ];
 
+// Not one function with lines_have_ends: it takes the layout by a closure, and with one the proof of its loop stays open.
 #[test]
-fn slots_have_ends(rt: HostRuntime) -> Result<(), Fail> {
+fn slots_have_ends(rt: HostRuntime) {
     for place in 0..16 {
         for (owner, ticks, fits) in SLOTS {
-            let mut slots = [slot(1, 7); 16];
-            slots[place as usize] = slot(owner, ticks);
+            let slots = &among(Slot::new(1, 7), Slot::new(owner, ticks), place);
             let expected = if fits { Ok(()) } else { Err((2, place)) };
-            refill(&rt, 3, &slots, &[], overheads(0, 0, 0), expected)?;
+            refill(&rt, Layout { slots, ..THREE }, expected);
         }
     }
-    Ok(())
 }
 
 // Owner, top cost and handler cost, on a board of three partitions, and whether they fit.
@@ -141,16 +127,14 @@ const LINES: [(u8, u16, u16, bool); 10] = [
 ];
 
 #[test]
-fn lines_have_ends(rt: HostRuntime) -> Result<(), Fail> {
+fn lines_have_ends(rt: HostRuntime) {
     for place in 0..16 {
         for (owner, top, handler, fits) in LINES {
-            let mut lines = [line(1, 2, 3); 16];
-            lines[place as usize] = line(owner, top, handler);
+            let lines = &among(Line::new(1, 2, 3), Line::new(owner, top, handler), place);
             let expected = if fits { Ok(()) } else { Err((3, place)) };
-            refill(&rt, 3, &[slot(0, 1)], &lines, overheads(0, 0, 0), expected)?;
+            refill(&rt, Layout { lines, ..THREE }, expected);
         }
     }
-    Ok(())
 }
 
 // Check, reschedule and switch.
@@ -166,38 +150,74 @@ const OVERHEADS: [(u16, u16, u16, Result<(), (u8, u32)>); 8] = [
 ];
 
 #[test]
-fn overheads_have_ends(rt: HostRuntime) -> Result<(), Fail> {
+fn overheads_have_ends(rt: HostRuntime) {
     for (check, reschedule, switch, expected) in OVERHEADS {
-        let tried = overheads(check, reschedule, switch);
-        refill(&rt, 1, &[slot(0, 1)], &[], tried, expected)?;
+        let layout = Layout {
+            overheads: Overheads::new(check, reschedule, switch),
+            ..LEAST
+        };
+        refill(&rt, layout, expected);
     }
-    Ok(())
 }
 
 #[test]
-fn lower_numbers_come_first(rt: HostRuntime) -> Result<(), Fail> {
-    let slots = [slot(0, 1), slot(9, 1), slot(0, 0)];
-    let lines = [line(0, 1, 1), line(0, 1, 1), line(9, 0, 0), line(0, 0, 1)];
-    let costly = overheads(0, 1001, 1001);
-    refill(&rt, 0, &slots, &lines, costly, Err((1, 0)))?;
-    refill(&rt, 9, &[], &lines, costly, Err((1, 0)))?;
-    refill(&rt, 8, &[], &lines, costly, Err((1, 1)))?;
-    refill(&rt, 8, &slots, &lines, costly, Err((2, 1)))?;
-    refill(&rt, 8, &slots[0..1], &lines, costly, Err((3, 2)))?;
-    refill(&rt, 8, &slots[0..1], &lines[0..2], costly, Err((4, 1)))?;
+fn lower_numbers_come_first(rt: HostRuntime) {
+    let slots = [Slot::new(0, 1), Slot::new(9, 1), Slot::new(0, 0)];
+    let lines = [
+        Line::new(0, 1, 1),
+        Line::new(0, 1, 1),
+        Line::new(9, 0, 0),
+        Line::new(0, 0, 1),
+    ];
+    let all = Layout {
+        partitions: 0,
+        slots: &slots,
+        lines: &lines,
+        overheads: Overheads::new(0, 1001, 1001),
+    };
+    refill(&rt, all, Err((1, 0)));
+    let none = Layout { slots: &[], ..all };
     refill(
         &rt,
-        8,
-        &slots[0..1],
-        &lines[0..2],
-        overheads(0, 0, 0),
-        Ok(()),
-    )
+        Layout {
+            partitions: 9,
+            ..none
+        },
+        Err((1, 0)),
+    );
+    refill(
+        &rt,
+        Layout {
+            partitions: 8,
+            ..none
+        },
+        Err((1, 1)),
+    );
+    let eight = Layout {
+        partitions: 8,
+        ..all
+    };
+    refill(&rt, eight, Err((2, 1)));
+    let one = Layout {
+        slots: &slots[..1],
+        ..eight
+    };
+    refill(&rt, one, Err((3, 2)));
+    let few = Layout {
+        lines: &lines[..2],
+        ..one
+    };
+    refill(&rt, few, Err((4, 1)));
+    let cheap = Layout {
+        overheads: Overheads::new(0, 0, 0),
+        ..few
+    };
+    refill(&rt, cheap, Ok(()));
 }
 
 #[test]
-fn boards_answer(rt: HostRuntime) -> Result<(), Fail> {
-    let board = board_k()?;
+fn boards_answer(rt: HostRuntime) {
+    let board = board_k();
     for (partition, own) in [
         (0, Ok(10)),
         (1, Ok(6)),
@@ -226,10 +246,9 @@ fn boards_answer(rt: HostRuntime) -> Result<(), Fail> {
         assert_eq!(rt; board.owner_at(at), owner, "at {at}");
     }
     let new = Board::new();
-    check_holds(&rt, &new, 1, &[slot(0, 1)], &[], overheads(0, 0, 0));
+    check_holds(&rt, &new, LEAST);
     assert_eq!(rt; told(new.own(0)), Ok(1));
     assert_eq!(rt; told(new.own(1)), Err((6, 1)));
     assert_eq!(rt; told(new.full_cost(0)), Err((6, 0)));
     assert_eq!(rt; new.cycle(), 1);
-    Ok(())
 }

@@ -1,8 +1,11 @@
 // The settings of every monitor and curve at both ends of their ranges; after a refusal each answers as before.
-use super::given::{budget, distance, jitter, sporadic, told, trail};
-use curve::Curve;
+use super::given::told;
+use budget::Budget;
+use curve::{Curve, Jitter, Sporadic};
+use distance::Distance;
 use monitor::Monitor;
 use std::test::Fail;
+use trail::Trail;
 
 // Ticks that a distance of 7 is set to, and whether they are in range.
 const DISTANCES: [(u32, bool); 5] = [
@@ -18,7 +21,7 @@ fn distances_have_ends(rt: HostRuntime) -> Result<(), Fail> {
     for (ticks, fits) in DISTANCES {
         let expected = if fits { Ok(()) } else { Err((5, 0)) };
         let length = u64::from(if fits { ticks } else { 7 });
-        let mut monitor = distance(7)?;
+        let mut monitor = Distance::of(7)?;
         assert!(rt; monitor.ask(0, 5));
         assert_eq!(rt; told(monitor.set(ticks)), expected);
         assert_eq!(rt; monitor.ready(0, 5), fits);
@@ -26,7 +29,7 @@ fn distances_have_ends(rt: HostRuntime) -> Result<(), Fail> {
         assert!(rt; monitor.ready(0, 12));
         assert_eq!(rt; monitor.ceiling(0, length), 1);
         assert_eq!(rt; monitor.ceiling(0, length + 1), 2);
-        let mut curve = sporadic(7)?;
+        let mut curve = Sporadic::of(7)?;
         assert_eq!(rt; told(curve.set(ticks)), expected);
         assert_eq!(rt; curve.most(0, length), 1);
         assert_eq!(rt; curve.most(0, length + 1), 2, "{ticks} ticks");
@@ -51,7 +54,7 @@ const BUDGETS: [(u32, u32, Result<(), (u8, u32)>); 10] = [
 #[test]
 fn budgets_have_ends(rt: HostRuntime) -> Result<(), Fail> {
     for (permits, period, expected) in BUDGETS {
-        let mut monitor = budget(2, 10)?;
+        let mut monitor = Budget::of(2, 10)?;
         assert!(rt; monitor.ask(0, 13) && monitor.ask(0, 13));
         let answer = told(monitor.set(permits, period));
         assert_eq!(rt; answer, expected, "{permits} per {period}");
@@ -93,7 +96,7 @@ const TRAILS: [(&[u32], Result<(), (u8, u32)>); 22] = [
 #[test]
 fn trails_have_ends(rt: HostRuntime) -> Result<(), Fail> {
     for (distances, expected) in TRAILS {
-        let mut monitor = trail(&[10, 40])?;
+        let mut monitor = Trail::of(&[10, 40])?;
         assert!(rt; monitor.ask(0, 0) && monitor.ask(0, 10));
         let answer = told(monitor.set(distances));
         assert_eq!(rt; answer, expected, "{distances:?}");
@@ -122,7 +125,7 @@ const JITTERS: [(u32, u32, Result<(), (u8, u32)>, u64, u64); 8] = [
 #[test]
 fn jitters_have_ends(rt: HostRuntime) -> Result<(), Fail> {
     for (period, late, expected, at_40, at_41) in JITTERS {
-        let mut curve = jitter(50, 10)?;
+        let mut curve = Jitter::of(50, 10)?;
         assert_eq!(rt; told(curve.set(period, late)), expected);
         assert_eq!(rt; curve.most(0, 0), 0);
         assert_eq!(rt; curve.most(0, 40), at_40);

@@ -1,7 +1,8 @@
 // Setting a distance, and what it answers as a monitor.
-ghost use Rattle.std.specs.Prelude.{◌≡◌, true, if◌then◌else◌};
+ghost use Rattle.std.specs.Prelude.{◌≡◌, true, MatchResult, if◌then◌else◌};
 ghost use Rattle.model.specs.Calls.{Replaced};
 ghost use Rattle.model.specs.Monitor.{Asked};
+ghost use Rattle.monitor.specs.Meanings.{meaning};
 ghost use Rattle.distance.specs.Distance.{distance_ready, distance_ceiling, distance_left, distance_after, distance_fault, distance_new};
 ghost use Rattle.distance.specs.View.{distance_state};
 ghost use Rattle.distance.specs.Distances.{distance_laws};
@@ -16,27 +17,35 @@ impl Distance {
     pub fn new() -> Distance
         ensures { distance_state result ≡ distance_new 1000000000 }
     {
-        Distance {
-            distance: LONGEST,
-            latest: None,
+        Distance::of(LONGEST).unwrap()
+    }
+
+    // A new one that keeps this distance, if that is in range.
+    pub fn of(distance: u32) -> Result<Self, Refusal>
+        ensures { MatchResult result
+            (λ m. distance_state m ≡ distance_new distance) (λ e. distance_fault distance ≡ Some e) }
+    {
+        if !in_range(1, LONGEST, distance) {
+            return Err(Refusal::Setting(0));
         }
+        Ok(Distance {
+            distance,
+            latest: None,
+        })
     }
 
     // Replaces the distance and forgets the permits.
     pub fn set(&mut self, distance: u32) -> Result<(), Refusal>
         ensures { Replaced distance_state (distance_fault distance) (distance_new distance) self.old result self.new }
     {
-        if !in_range(1, LONGEST, distance) {
-            return Err(Refusal::Setting(0));
-        }
-        *self = Distance {
-            distance,
-            latest: None,
-        };
+        *self = Self::of(distance)?;
         Ok(())
     }
 }
 
+// Each kind of one line says so itself. One impl by a trait of rules would ask nearly as many members of each kind (the rule, the
+// ceiling, what is left, what a permit makes of it, their laws) to spare it a number and three tests; a wrapper would change its
+// type.
 impl Monitor for Distance {
     ghost lines = { λ m. 1 };
 
@@ -55,10 +64,7 @@ impl Monitor for Distance {
     }
 
     fn ready(&self, line: u32, at: u32) -> bool {
-        if line != 0 || at > END {
-            return false;
-        }
-        is_after(self.latest, self.distance, at)
+        line == 0 && at <= END && is_after(self.latest, self.distance, at)
     }
 
     fn ceiling(&self, line: u32, window: u64) -> u64 {
@@ -69,9 +75,7 @@ impl Monitor for Distance {
     }
 
     fn ask(&mut self, line: u32, at: u32) -> bool
-        ensures asked { Asked
-            (λ m. 1) (λ m. distance_ready (distance_state m)) (λ m. distance_ceiling (distance_state m)) (λ m. distance_left (distance_state m))
-            self.old line at result self.new }
+        ensures asked { Asked (meaning ⟦<Distance as Monitor>⟧) self.old line at result self.new }
         ensures after { distance_state self.new
             ≡ (if result then distance_after (distance_state self.old) at else distance_state self.old) }
         ensures once { result ≡ true → distance_state self.new ≡ distance_after (distance_state self.old) at }

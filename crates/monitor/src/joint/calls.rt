@@ -3,11 +3,12 @@ ghost use Rattle.std.specs.Prelude.{◌≡◌, true};
 ghost use Rattle.model.specs.Monitor.{Asked};
 ghost use Rattle.monitor.specs.Joint.{joint_lines, joint_ready, joint_ceiling, joint_left, joint_spent, BothAsked};
 ghost use Rattle.monitor.specs.Joining.{limited_laws};
+ghost use Rattle.monitor.specs.Meanings.{meaning};
 
 use super::Joint;
 use crate::monitor::Monitor;
 
-impl<A: Monitor, B: Monitor> Joint<A, B> {
+impl<A, B> Joint<A, B> {
     pub fn new(first: A, second: B) -> Joint<A, B>
         ensures { result ≡ record { first = first; second = second } }
     {
@@ -43,24 +44,10 @@ impl<A: Monitor, B: Monitor> Monitor for Joint<A, B> {
     }
 
     fn ask(&mut self, line: u32, at: u32) -> bool
-        ensures asked { Asked
-            (joint_lines A.Monitor.lines)
-            (joint_ready A.Monitor.ready B.Monitor.ready)
-            (joint_ceiling A.Monitor.ceiling B.Monitor.ceiling)
-            (joint_left A.Monitor.left B.Monitor.left)
-            self.old line at result self.new }
+        ensures asked { Asked (meaning ⟦<Joint<A, B> as Monitor>⟧) self.old line at result self.new }
         ensures once { result ≡ true → joint_spent A.Monitor.spent B.Monitor.spent self.old line at self.new }
-        ensures both { BothAsked
-            A.Monitor.lines A.Monitor.ready A.Monitor.ceiling A.Monitor.left
-            B.Monitor.lines B.Monitor.ready B.Monitor.ceiling B.Monitor.left
-            self.old line at result self.new }
+        ensures both { BothAsked (meaning A.Monitor) (meaning B.Monitor) self.old line at result self.new }
     {
-        if !self.second.ready(0, at) {
-            return false;
-        }
-        if !self.first.ask(line, at) {
-            return false;
-        }
-        self.second.ask(0, at)
+        self.second.ready(0, at) && self.first.ask(line, at) && self.second.ask(0, at)
     }
 }

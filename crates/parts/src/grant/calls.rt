@@ -7,7 +7,7 @@ use super::{Grant, first_step, less};
 use crate::phase::Phase;
 
 impl Grant {
-    // No grant is open.
+    // No grant is open: the line's number says nothing.
     pub fn closed() -> Grant
         ensures { opened result ≡ None }
     {

@@ -1,6 +1,6 @@
 // Joining a queue, and running the handler of its head event.
 ghost use Rattle.std.specs.Prelude.{◌≡◌, false, [], ◌∷◌, ◌++◌, length, if◌then◌else◌, nat_lt};
-ghost use Rattle.parts.specs.Service.{Service, serve};
+ghost use Rattle.parts.specs.Service.{serve};
 ghost use Rattle.parts.specs.Pending.{pending};
 
 use super::{CAPACITY, Queue};
@@ -10,14 +10,8 @@ impl Queue {
     pub fn new() -> Queue
         ensures { pending result ≡ [] }
     {
-        let none = Event {
-            tag: 0,
-            line: 0,
-            raised: 0,
-            left: 0,
-        };
         Queue {
-            events: [none; CAPACITY],
+            events: [Event::default(); CAPACITY],
             len: 0,
         }
     }

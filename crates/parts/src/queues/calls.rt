@@ -1,7 +1,7 @@
 // The queues by partition: one that no board can have holds nothing and takes nothing.
 ghost use Rattle.std.specs.Prelude.{◌≡◌, ℕ, ◌+◌, ◌≤◌, false, ◌&&◌, [], ◌∷◌, ◌++◌, length, if◌then◌else◌, nat_lt};
 ghost use Rattle.model.specs.Tick.{put};
-ghost use Rattle.parts.specs.Service.{Service, serve};
+ghost use Rattle.parts.specs.Service.{serve};
 ghost use Rattle.parts.specs.Waiting.{queue_of, held_in};
 
 use super::{PARTITIONS, Queues, has_queue, sum_of};
@@ -21,10 +21,9 @@ impl Queues {
     pub fn len(&self, partition: u8) -> usize
         ensures { result ≡ length (queue_of self.now partition) }
     {
-        if !has_queue(&self.all, partition) {
-            return 0;
-        }
-        self.all[usize::from(partition)].len()
+        self.all
+            .get(usize::from(partition))
+            .map_or(0, |queue| queue.len())
     }
 
     // The events of all queues together.

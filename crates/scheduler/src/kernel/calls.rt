@@ -6,6 +6,7 @@ ghost use Rattle.model.specs.Laws.{Laws};
 ghost use Rattle.board.specs.Held.{held};
 ghost use Rattle.model.specs.Board.{line_at};
 ghost use Rattle.scheduler.specs.Seen.{core_of, Asking};
+ghost use Rattle.monitor.specs.Meanings.{meaning};
 
 use super::Core;
 use crate::mask::Mask;
@@ -18,7 +19,7 @@ impl<M: Monitor> Core<M> {
     // A new core: at instant 0, nothing owed, no grant, empty queues. Over every run from it the three laws hold.
     pub fn new(board: Board, monitor: M) -> Core<M>
         ensures fresh { core_of result ≡ new_core (held board) monitor }
-        ensures laws { Laws M.Monitor.lines M.Monitor.ready M.Monitor.ceiling M.Monitor.left (held board) monitor }
+        ensures laws { Laws (meaning M.Monitor) (held board) monitor }
     {
         Core {
             monitor,
@@ -26,19 +27,21 @@ impl<M: Monitor> Core<M> {
         }
     }
 
-    // Raises an event of a line, unless the board lacks the line, the mask closes it or its partition's queue is full.
+    // Raises an event of a line, unless the board lacks the line, the mask closes it or its partition's queue is full. Mask, line
+    // and tag are what the caller has, each from a place of its own.
     pub fn raise(&mut self, mask: &Mask, line: u32, tag: u32) -> Result<Answer, Refusal>
-        ensures raised { Raised M.Monitor.lines M.Monitor.ready M.Monitor.ceiling M.Monitor.left (core_of self.old) mask.now.word line tag result (core_of self.new) }
+        ensures raised { Raised (meaning M.Monitor) (core_of self.old) mask.now.word line tag result (core_of self.new) }
         ensures refused { is_err result ≡ true → self.new ≡ self.old }
         ensures once { result ≡ Ok says_permitted → M.Monitor.spent self.old.monitor line (core_of self.old).state.instant self.new.monitor }
     {
-        self.tables.check(mask.word(), line)?;
+        self.tables.check(mask, line)?;
         Ok(self.accept(line, tag))
     }
 
     // Asks the monitor about a line, in a foreign slot while no grant is open.
     fn permit(&mut self, line: u32) -> bool
-        ensures asking { line < length (core_of self.old).board.lines → Asking M.Monitor.lines M.Monitor.ready M.Monitor.ceiling M.Monitor.left (core_of self.old) line result self.new.monitor }
+        requires { line < length (core_of self.old).board.lines }
+        ensures asking { Asking (meaning M.Monitor) (core_of self.old) line result self.new.monitor }
         ensures once { result ≡ true → M.Monitor.spent self.old.monitor line (core_of self.old).state.instant self.new.monitor }
         ensures same { self.new.tables ≡ self.old.tables }
     {
@@ -51,8 +54,10 @@ impl<M: Monitor> Core<M> {
 
     // Takes an event that no check refuses.
     fn accept(&mut self, line: u32, tag: u32) -> Answer
+        requires known { line < length (core_of self.old).board.lines }
+        requires room { length ((core_of self.old).state.queue (line_at (core_of self.old).board line).owner) < 32 }
         ensures once { result ≡ says_permitted → M.Monitor.spent self.old.monitor line (core_of self.old).state.instant self.new.monitor }
-        ensures taken { line < length (core_of self.old).board.lines → length ((core_of self.old).state.queue (line_at (core_of self.old).board line).owner) < 32 → Taken M.Monitor.lines M.Monitor.ready M.Monitor.ceiling M.Monitor.left (core_of self.old) line tag (Ok result) (core_of self.new) }
+        ensures taken { Taken (meaning M.Monitor) (core_of self.old) line tag (Ok result) (core_of self.new) }
     {
         let permitted = self.permit(line);
         self.tables.take(line, tag, permitted);
@@ -64,7 +69,8 @@ impl<M: Monitor> Core<M> {
     }
 
     // Runs up to `ticks` ticks, and writes their spans and finished events to the front of the buffers. It stops just before
-    // the first tick that needs a place that they lack.
+    // the first tick that needs a place that they lack. The buffers are the caller's own two, in fixed memory; how many places of
+    // each were written is part of the answer.
     pub fn advance(
         &mut self,
         ticks: u32,

@@ -4,6 +4,7 @@ ghost use Rattle.model.specs.Core.{Strobed};
 ghost use Rattle.scheduler.specs.Seen.{core_of};
 ghost use Rattle.scheduler.specs.Spending.{SpentOnce};
 ghost use Rattle.scheduler.specs.Words.{noting};
+ghost use Rattle.monitor.specs.Meanings.{meaning};
 
 use super::Core;
 use crate::mask::Mask;
@@ -12,18 +13,14 @@ use monitor::Monitor;
 
 // The words of lines taken and lines permitted, with a line noted by what raising it answered.
 fn noted(words: (u16, u16), line: u32, answer: Result<Answer, Refusal>) -> (u16, u16)
-    ensures { line < 16 → words.0 < 2 ^ line → words.1 < 2 ^ line → result ≡ noting line answer words }
+    requires { line < 16 }
+    ensures { words.0 < 2 ^ line → words.1 < 2 ^ line → result ≡ noting line answer words }
 {
-    if line >= 16 {
-        return words;
-    }
     let (taken, permitted) = words;
     let bit = 1u16 << line;
     match answer {
-        Ok(told) => match told {
-            Answer::Permitted => (taken | bit, permitted | bit),
-            Answer::Queued => (taken | bit, permitted),
-        },
+        Ok(Answer::Permitted) => (taken | bit, permitted | bit),
+        Ok(Answer::Queued) => (taken | bit, permitted),
         Err(_) => words,
     }
 }
@@ -32,10 +29,11 @@ impl<M: Monitor> Core<M> {
     // Raises the lines whose bits are set in a word, lowest line first. Answers the lines taken and the lines permitted; a line
     // that is refused is in neither.
     pub fn strobe(&mut self, mask: &Mask, word: u16, tag: u32) -> (u16, u16)
-        ensures strobed { Strobed M.Monitor.lines M.Monitor.ready M.Monitor.ceiling M.Monitor.left (core_of self.old) mask.now.word word tag result (core_of self.new) }
+        ensures strobed { Strobed (meaning M.Monitor) (core_of self.old) mask.now.word word tag result (core_of self.new) }
         ensures once { SpentOnce M.Monitor.spent self.old.monitor result.1 (core_of self.old).state.instant self.new.monitor }
     {
         let mut words = (0, 0);
+        // over the bits of a word, and no index: the lowest one left is the next line
         let mut rest = word;
         while rest != 0 {
             let line = rest.trailing_zeros();

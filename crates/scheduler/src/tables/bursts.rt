@@ -2,7 +2,7 @@
 ghost use Rattle.std.specs.Prelude.{◌≡◌, ◌+◌, ◌<◌, ◌≤◌};
 ghost use Rattle.model.specs.Board.{owner_at, line_at};
 ghost use Rattle.model.specs.Tick.{tick};
-ghost use Rattle.scheduler.specs.Stretches.{Stretch, finished_of};
+ghost use Rattle.scheduler.specs.Stretches.{Stretch};
 ghost use Rattle.scheduler.specs.Slots.{Stays};
 ghost use Rattle.scheduler.specs.View.{board_of, state_of};
 ghost use Rattle.scheduler.specs.Works.{Works};
@@ -10,45 +10,25 @@ ghost use Rattle.parts.specs.Grants.{opened, stepped};
 ghost use Rattle.parts.specs.Waiting.{queue_of};
 
 use super::Tables;
-use model::{Event, Finished, Kind};
+use model::{Finished, Kind, Row};
 use parts::Phase;
 
 mod running;
 
-// An event that ended, finished at an instant.
-fn finished_at(ended: Option<Event>, at: u32) -> Option<Finished>
-    ensures { result ≡ finished_of at ended }
-{
-    match ended {
-        Some(event) => Some(Finished {
-            tag: event.tag,
-            line: event.line,
-            raised: event.raised,
-            at,
-        }),
-        None => None,
-    }
-}
-
 impl Tables {
-    // What the next tick is spent on, and for whom, in a slot of `owner`.
-    fn row(&self, owner: u8) -> (Kind, u8)
-        ensures { owner_at (board_of self.now) self.now.instant ≡ owner → (tick (board_of self.now) (state_of self.now)).row ≡ record { kind = result.0; who = result.1; owner = owner } }
+    // What the next tick is spent on, and for whom, in a slot of `owner`; 255 is nobody, as a tape has it.
+    fn row(&self, owner: u8) -> Row
+        ensures { owner_at (board_of self.now) self.now.instant ≡ owner → (tick (board_of self.now) (state_of self.now)).row ≡ result }
     {
-        if self.owed > 0 {
-            return (Kind::Top, 255);
-        }
-        match self.grant.phase() {
-            Phase::Lead { .. } | Phase::Trail { .. } => (Kind::Switch, self.grant.line()),
-            Phase::Work { .. } => (Kind::Interposed, self.grant.line()),
-            Phase::Closed => {
-                if self.queues.len(owner) == 0 {
-                    (Kind::Application, owner)
-                } else {
-                    (Kind::Bottom, owner)
-                }
-            }
-        }
+        let line = self.grant.line();
+        let (kind, who) = match self.grant.phase() {
+            _ if self.owed > 0 => (Kind::Top, 255),
+            Phase::Lead { .. } | Phase::Trail { .. } => (Kind::Switch, line),
+            Phase::Work { .. } => (Kind::Interposed, line),
+            Phase::Closed if self.queues.len(owner) > 0 => (Kind::Bottom, owner),
+            Phase::Closed => (Kind::Application, owner),
+        };
+        Row { kind, who, owner }
     }
 
     // Ticks of a grant's switch.
@@ -63,17 +43,14 @@ impl Tables {
         ticks
     }
 
-    // The partition of the grant's line.
+    // The partition of the grant's line; 0 where the board lacks it, as the model's owner of such a line.
     fn granted_partition(&self) -> u8
         ensures { result ≡ (line_at (board_of self.now) self.now.grant.line).owner }
     {
-        let line = usize::from(self.grant.line());
-        let lines = self.board.lines();
-        if line < lines.len() {
-            lines[line].owner
-        } else {
-            0
-        }
+        self.board
+            .lines()
+            .get(usize::from(self.grant.line()))
+            .map_or(0, |line| line.owner)
     }
 
     // Ticks of the head event of a partition; where none waits, ticks with nothing served.
@@ -85,7 +62,14 @@ impl Tables {
     {
         let (served, ended) = self.queues.serve(partition, ticks, room);
         self.instant += served;
-        (served, finished_at(ended, self.instant))
+        let at = self.instant;
+        let finished = ended.map(|event| Finished {
+            tag: event.tag,
+            line: event.line,
+            raised: event.raised,
+            at,
+        });
+        (served, finished)
     }
 
     // Ticks of a grant's work: of the head event of its line's partition.
@@ -100,7 +84,8 @@ impl Tables {
         (served, ended)
     }
 
-    // The longest stretch of ticks that one rule gives in a slot of `owner`, up to `limit`, with the event that it ended.
+    // The longest stretch of ticks that one rule gives in a slot of `owner`, up to `limit`, with the event that it ended. How far it
+    // may go and whether an event may end come from two places, the slot and the caller's buffer, so they are two arguments.
     fn burst(&mut self, owner: u8, limit: u32, room: bool) -> (u32, Option<Finished>)
         requires lasts { Stays (board_of self.old) self.old.instant owner limit }
         requires clock { self.old.instant + limit ≤ 4000000000 }

@@ -3,18 +3,15 @@ ghost use Rattle.std.specs.Prelude.{◌≡◌, ◌+◌, ◌<◌, ◌≤◌, not,
 ghost use Rattle.model.specs.Calls.{answer};
 ghost use Rattle.model.specs.Core.{raise_fault, asks, raised_state, fresh_grant};
 ghost use Rattle.model.specs.Tick.{fresh};
-ghost use Rattle.model.specs.Bits.{is_set};
 ghost use Rattle.model.specs.Board.{line_at, serves};
 ghost use Rattle.parts.specs.Grants.{opened};
 ghost use Rattle.scheduler.specs.View.{board_of, state_of};
 
 use super::Tables;
+use crate::mask::Mask;
 use board::Board;
 use model::{Event, Line, Refusal};
-use parts::{Grant, Queues};
-
-// How many events a queue can hold.
-const CAPACITY: usize = 32;
+use parts::{CAPACITY, Grant, Queues};
 
 impl Tables {
     // At instant 0, with nothing owed, no grant and empty queues.
@@ -50,25 +47,21 @@ impl Tables {
         self.queues.len(partition)
     }
 
-    // The line of a number, if the board has it.
-    fn wired(&self, line: u32) -> Option<Line>
-        ensures { result ≡ (if nat_lt line (length (board_of self.now).lines) then Some (line_at (board_of self.now) line) else None) }
+    // The line of a number that the board has.
+    fn wired(&self, line: u32) -> Line
+        requires { line < length (board_of self.now).lines }
+        ensures { result ≡ line_at (board_of self.now) line }
     {
-        let lines = self.board.lines();
-        if line as usize >= lines.len() {
-            return None;
-        }
-        Some(lines[line as usize])
+        self.board.lines()[line as usize]
     }
 
     // Why an event of a line cannot be taken under a mask, if it cannot.
-    pub fn check(&self, mask: u16, line: u32) -> Result<(), Refusal>
-        ensures { result ≡ answer (raise_fault (board_of self.now) (state_of self.now) mask line) }
+    pub fn check(&self, mask: &Mask, line: u32) -> Result<(), Refusal>
+        ensures { result ≡ answer (raise_fault (board_of self.now) (state_of self.now) mask.now.word line) }
     {
-        let Some(wired) = self.wired(line) else {
-            return Err(Refusal::NoSuch(line));
-        };
-        if is_set(mask, line) {
+        let lines = self.board.lines();
+        let wired = lines.get(line as usize).ok_or(Refusal::NoSuch(line))?;
+        if mask.closes(line) {
             return Err(Refusal::Masked(line));
         }
         if self.queues.len(wired.owner) >= CAPACITY {
@@ -85,13 +78,11 @@ impl Tables {
     }
 
     // Whether the monitor is to be asked about a line that the board has.
-    pub fn asks(&self, line: u32) -> bool
-        ensures { line < length (board_of self.now).lines → result ≡ asks (board_of self.now) (state_of self.now) line }
+    pub(crate) fn asks(&self, line: u32) -> bool
+        requires { line < length (board_of self.now).lines }
+        ensures { result ≡ asks (board_of self.now) (state_of self.now) line }
     {
-        match self.wired(line) {
-            Some(wired) => self.in_foreign_slot(wired.owner) && !self.grant.is_open(),
-            None => false,
-        }
+        !self.grant.is_open() && self.in_foreign_slot(self.wired(line).owner)
     }
 
     // What an event adds to the work owed: its top cost, and the check's in a foreign slot.
@@ -109,7 +100,9 @@ impl Tables {
 
     // The grant after an event of a line was taken: a permit opens one.
     fn next_grant(&self, line: u8, wired: Line, permitted: bool) -> Grant
-        ensures { wired ≡ line_at (board_of self.now) line → line < length (board_of self.now).lines → opened result ≡ (if permitted then Some (fresh_grant (board_of self.now) line) else opened self.now.grant) }
+        requires known { line < length (board_of self.now).lines }
+        requires read { wired ≡ line_at (board_of self.now) line }
+        ensures { opened result ≡ (if permitted then Some (fresh_grant (board_of self.now) line) else opened self.now.grant) }
     {
         if !permitted {
             return self.grant;
@@ -120,13 +113,13 @@ impl Tables {
     }
 
     // Queues an event of a line that can be taken, and opens its grant if it is permitted.
-    pub fn take(&mut self, line: u32, tag: u32, permitted: bool)
-        ensures state { line < length (board_of self.old).lines → length ((state_of self.old).queue (line_at (board_of self.old) line).owner) < 32 → state_of self.new ≡ raised_state (board_of self.old) (state_of self.old) line tag permitted }
+    pub(crate) fn take(&mut self, line: u32, tag: u32, permitted: bool)
+        requires known { line < length (board_of self.old).lines }
+        requires room { length ((state_of self.old).queue (line_at (board_of self.old) line).owner) < 32 }
+        ensures state { state_of self.new ≡ raised_state (board_of self.old) (state_of self.old) line tag permitted }
         ensures board { self.new.board ≡ self.old.board }
     {
-        let Some(wired) = self.wired(line) else {
-            return;
-        };
+        let wired = self.wired(line);
         let work = self.top_work(wired);
         let event = Event {
             tag,
@@ -134,20 +127,9 @@ impl Tables {
             raised: self.instant,
             left: wired.handler,
         };
-        let grant = self.next_grant(line as u8, wired, permitted);
-        if self.queues.push(wired.owner, event) {
-            self.owed += work;
-            self.grant = grant;
-        }
+        self.grant = self.next_grant(line as u8, wired, permitted);
+        let pushed = self.queues.push(wired.owner, event);
+        prove!(pushed);
+        self.owed += work;
     }
-}
-
-// Whether a word names a line, by the bit of its number.
-fn is_set(word: u16, line: u32) -> bool
-    ensures { line < 16 → result ≡ is_set word line }
-{
-    if line >= 16 {
-        return false;
-    }
-    (word >> line) & 1 == 1
 }

@@ -1,31 +1,34 @@
 // Taking the words of a line, and what a word says.
-ghost use Rattle.std.specs.Prelude.{◌≡◌, ◌≤◌, IfOk};
-ghost use Rattle.sheet.specs.Firsts.{first_of, later_of};
-ghost use Rattle.sheet.specs.Reading.{limit16, limit32, number, part, placed, words_of};
-ghost use Rattle.sheet.specs.Words.{part_of, seen, words_left, only_byte};
+ghost use Rattle.std.specs.Prelude.{◌≡◌, ◌+◌, ◌≤◌, length, IfOk, ⊤};
+ghost use Rattle.std.specs.Iterator.{MakesProgress, YieldsFirstBy, item_count};
+ghost use Rattle.sheet.specs.Firsts.{later_of};
+ghost use Rattle.sheet.specs.Pieces.{part_at};
+ghost use Rattle.sheet.specs.Reading.{limit16, limit32, number, placed, words_of};
+ghost use Rattle.sheet.specs.Words.{part_of, words_left, only_byte, no_more, required, exactly_one, exactly_two, seen_one, seen_two};
 
-use super::{Line, Word, Words};
+use super::{Word, Words};
 use crate::digits::decimal;
 use crate::fault::Fault;
-use crate::scan::count_before;
+use crate::piece::Piece;
 
-impl<'a> Word<'a> {
-    fn new(place: usize, bytes: &'a [u8]) -> Word<'a>
-        ensures { part_of result ≡ part place bytes.now }
-    {
-        if bytes.is_empty() {
-            Word::Empty(place)
+impl<'a> From<Piece<'a>> for Word<'a> {
+    ghost from_gives = { λ p w. part_of w ≡ part_at p };
+
+    fn from(piece: Piece<'a>) -> Word<'a> {
+        if piece.bytes.is_empty() {
+            Word::Empty(piece.place)
         } else {
-            Word::Text(place, bytes)
+            Word::Text(piece.place, piece.bytes)
         }
     }
+}
 
+impl<'a> Word<'a> {
     pub(crate) fn place(self) -> usize
         ensures { result ≡ (part_of self.entry).place }
     {
         match self {
-            Word::Empty(place) => place,
-            Word::Text(place, _) => place,
+            Word::Empty(place) | Word::Text(place, _) => place,
         }
     }
 
@@ -39,19 +42,6 @@ impl<'a> Word<'a> {
         }
     }
 
-    pub(crate) fn to_u16(self) -> Result<u16, Fault>
-        ensures { result ≡ number limit16 (part_of self.entry) }
-    {
-        let value = self.number(u32::from(u16::MAX))?;
-        Ok(value as u16)
-    }
-
-    pub(crate) fn to_u32(self) -> Result<u32, Fault>
-        ensures { result ≡ number limit32 (part_of self.entry) }
-    {
-        self.number(u32::MAX)
-    }
-
     // The word as a number up to the limit.
     fn number(self, limit: u32) -> Result<u32, Fault>
         ensures value { result ≡ number limit (part_of self.entry) }
@@ -59,43 +49,98 @@ impl<'a> Word<'a> {
     {
         match self {
             Word::Empty(place) => Err(Fault::Number(place)),
-            Word::Text(place, bytes) => match decimal(bytes, limit) {
-                Some(value) => Ok(value),
-                None => Err(Fault::Number(place)),
-            },
+            Word::Text(place, bytes) => decimal(bytes, limit).ok_or(Fault::Number(place)),
         }
     }
 }
 
+impl<'a> TryFrom<Word<'a>> for u16 {
+    type Error = Fault;
+
+    ghost try_from_gives = { λ w r. r ≡ number limit16 (part_of w) };
+
+    fn try_from(word: Word<'a>) -> Result<u16, Fault> {
+        let value = word.number(u32::from(u16::MAX))?;
+        Ok(value as u16)
+    }
+}
+
+impl<'a> TryFrom<Word<'a>> for u32 {
+    type Error = Fault;
+
+    ghost try_from_gives = { λ w r. r ≡ number limit32 (part_of w) };
+
+    fn try_from(word: Word<'a>) -> Result<u32, Fault> {
+        word.number(u32::MAX)
+    }
+}
+
 impl<'a> Words<'a> {
-    pub(crate) fn new(line: Line<'a>) -> Words<'a>
-        ensures { words_left result ≡ placed line.entry.place (words_of line.entry.bytes.now) }
+    pub(crate) fn new(line: Piece<'a>) -> Words<'a>
+        ensures words { words_left result ≡ placed line.entry.place (words_of line.entry.bytes.now) }
+        ensures end { result.end ≡ line.entry.place + length line.entry.bytes.now }
     {
         Words {
-            place: line.place,
-            rest: line.bytes,
-            more: true,
+            left: Some(line),
+            end: line.place + line.bytes.len(),
         }
     }
 
-    pub(crate) fn next(&mut self) -> Option<Word<'a>>
-        ensures word { seen result ≡ first_of (words_left self.old) }
+    // The next word, or the fault with its byte: in the form that the project asks for.
+    pub(crate) fn required(&mut self) -> Result<Word<'a>, Fault>
+        ensures word { seen_one result ≡ required self.old.end (words_left self.old) }
         ensures left { words_left self.new ≡ later_of (words_left self.old) }
+        ensures end { self.new.end ≡ self.old.end }
     {
-        if !self.more {
-            return None;
-        }
-        let length = count_before(b' ', self.rest);
-        let word = Word::new(self.place, &self.rest[..length]);
-        if length == self.rest.len() {
-            self.more = false;
-            return Some(word);
-        }
-        *self = Words {
-            place: self.place + length + 1,
-            rest: &self.rest[length + 1..],
-            more: true,
+        let Some(word) = self.next() else {
+            return Err(Fault::Form(self.end));
         };
-        Some(word)
+        Ok(word)
+    }
+
+    // A word too many is told at its place.
+    fn no_more(&mut self) -> Result<(), Fault>
+        ensures { result ≡ no_more (words_left self.old) }
+    {
+        match self.next() {
+            Some(extra) => Err(Fault::Form(extra.place())),
+            None => Ok(()),
+        }
+    }
+
+    // The one word that is left.
+    pub(crate) fn one(&mut self) -> Result<Word<'a>, Fault>
+        ensures { seen_one result ≡ exactly_one self.old.end (words_left self.old) }
+    {
+        let word = self.required()?;
+        self.no_more()?;
+        Ok(word)
+    }
+
+    // The two words that are left. One function for any count would answer an array of words, and an array that holds
+    // references and has a const parameter for its length gets no proof.
+    pub(crate) fn two(&mut self) -> Result<(Word<'a>, Word<'a>), Fault>
+        ensures { seen_two result ≡ exactly_two self.old.end (words_left self.old) }
+    {
+        let first = self.required()?;
+        Ok((first, self.one()?))
+    }
+}
+
+impl<'a> Iterator for Words<'a> {
+    type Item = Word<'a>;
+
+    ghost next_gives = { YieldsFirstBy part_of words_left };
+
+    ghost remaining = { item_count words_left };
+
+    fn next(&mut self) -> Option<Word<'a>>
+        ensures steps { YieldsFirstBy part_of words_left self.old result self.new }
+        ensures goes { MakesProgress (λ _. ⊤) (item_count words_left) self.old result self.new }
+        ensures end { self.new.end ≡ self.old.end }
+    {
+        let (word, rest) = self.left?.cut(b' ');
+        self.left = rest;
+        Some(Word::from(word))
     }
 }

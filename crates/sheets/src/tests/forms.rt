@@ -1,5 +1,5 @@
 // Lines that are read and lines that are refused, with the byte of the fault.
-use super::given::gives;
+use super::given::each_gives;
 use std::test::Fail;
 
 // A sheet on board K, and its text.
@@ -73,10 +73,7 @@ const LINES: [(&[u8], &str); 52] = [
 
 #[test]
 fn lines(rt: HostRuntime) -> Result<(), Fail> {
-    for (sheet, text) in LINES.iter() {
-        gives(&rt, rt.alloc(), sheet, text)?;
-    }
-    Ok(())
+    each_gives(&rt, &LINES)
 }
 
 // Numbers at both ends of their widths, with leading zeros.
@@ -102,8 +99,5 @@ const WIDTHS: [(&[u8], &str); 14] = [
 
 #[test]
 fn widths(rt: HostRuntime) -> Result<(), Fail> {
-    for (sheet, text) in WIDTHS.iter() {
-        gives(&rt, rt.alloc(), sheet, text)?;
-    }
-    Ok(())
+    each_gives(&rt, &WIDTHS)
 }

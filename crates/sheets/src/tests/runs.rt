@@ -1,5 +1,5 @@
 // What raising, strobing, masking and running print.
-use super::given::gives;
+use super::given::{each_gives, gives};
 use std::test::Fail;
 
 // A sheet on board K, and its text.
@@ -34,10 +34,7 @@ const RUNS: [(&[u8], &str); 8] = [
 
 #[test]
 fn runs(rt: HostRuntime) -> Result<(), Fail> {
-    for (sheet, text) in RUNS.iter() {
-        gives(&rt, rt.alloc(), sheet, text)?;
-    }
-    Ok(())
+    each_gives(&rt, &RUNS)
 }
 
 // The 33rd event of a partition is refused, and the 32 before it are kept.
@@ -52,5 +49,5 @@ fn a_full_queue(rt: HostRuntime) -> Result<(), Fail> {
     }
     sheet.extend_from_slice(b"R 0 1\n")?;
     text.push_str("F 33 8 1\n")?;
-    gives(&rt, rt.alloc(), sheet.as_slice(), text.as_str())
+    gives(&rt, sheet.as_slice(), text.as_str())
 }

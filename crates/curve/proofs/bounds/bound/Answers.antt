@@ -7,10 +7,10 @@ use Rattle.board.specs.Held.{held}
 use Rattle.curve.proofs.Demands.{demand_grows}
 use Rattle.curve.proofs.bounds.bound.Goals as goal
 
-pub overflow_sub-others : goal.overflow_sub-others
-overflow_sub-others g c =
+pub overflow_sub-load : goal.overflow_sub-load
+overflow_sub-load g c =
     let few = own_few (held c.args.board.now) c.args.partition in
-    let was = c.in_ok-others.was in
+    let was = c.in_ok-own.was in
     grind (arith, nat_tests)
 
 pub loop-window-preserved : goal.loop-window-preserved

@@ -5,10 +5,11 @@ ghost use Rattle.model.specs.Limits.{end};
 ghost use Rattle.scheduler.specs.Ticking.{Going, Most, RunBy};
 ghost use Rattle.scheduler.specs.View.{board_of, state_of};
 
-use super::super::{END, Tables};
-use crate::buffers::{has_place, note, put};
+use super::super::Tables;
 use crate::slots::slot_now;
-use model::{Finished, Ran, Refusal, Span};
+use crate::strip::Strip;
+use model::{Finished, Ran, Refusal, Slot, Span};
+use windows::END;
 
 impl Tables {
     // Runs as many of the ticks as their output fits, and never fewer.
@@ -18,43 +19,34 @@ impl Tables {
         ensures most { Most (board_of self.old) (state_of self.old) ticks (length spans.old) (length finished.old) result.ticks }
         ensures board { self.new.board ≡ self.old.board }
     {
-        let mut ran = Ran {
-            ticks: 0,
-            spans: 0,
-            finished: 0,
-        };
-        let mut slot = (0, 0);
-        while ran.ticks < ticks {
-            let (owner, rest) = slot_now(&self.board, self.instant, slot.0, slot.1);
-            let (kind, who) = self.row(owner);
+        let mut tape = Strip::new(spans);
+        let mut done = Strip::new(finished);
+        let mut run = 0;
+        // nothing is left of a slot before the first
+        let mut slot = Slot::default();
+        // stretch by stretch, and no index
+        while run < ticks {
+            slot = slot_now(&self.board, self.instant, slot);
+            let row = self.row(slot.owner);
             let first = self.instant;
-            let next = Span {
-                first,
-                ticks: 0,
-                kind,
-                who,
-                owner,
-            };
-            if !has_place(spans, ran.spans, next) {
-                return ran;
+            if !tape.has_place(Span::new(first, 0, row)) {
+                break;
             }
-            let limit = rest.min(ticks - ran.ticks);
-            let (run, ended) = self.burst(owner, limit, ran.finished < finished.len());
-            if run == 0 {
-                return ran;
+            let limit = slot.ticks.min(ticks - run);
+            let (burst, ended) = self.burst(slot.owner, limit, !done.is_full());
+            if burst == 0 {
+                break;
             }
-            let Some(written) = put(spans, ran.spans, Span { ticks: run, ..next }) else {
-                return ran;
-            };
-            let noted = note(finished, ran.finished, ended);
-            ran = Ran {
-                ticks: ran.ticks + run,
-                spans: written,
-                finished: noted,
-            };
-            slot = (owner, rest - run);
+            tape.put(Span::new(first, burst, row));
+            done.note(ended);
+            run += burst;
+            slot.ticks -= burst;
         }
-        ran
+        Ran {
+            ticks: run,
+            spans: tape.len(),
+            finished: done.len(),
+        }
     }
 
     // Runs up to `ticks` ticks, or refuses where they pass the clock's end.

@@ -4,23 +4,16 @@ use Rattle.std.proofs.lemmas.Bool.Decides.{nat_tests}
 use Rattle.sheet.proofs.Numbers.{digits_more, no_digit, too_large, all_read}
 use Rattle.sheet.proofs.digits.decimal.Goals as goal
 
-pub returns-then-not-is_ascii_digit : goal.returns-then-not-is_ascii_digit
-returns-then-not-is_ascii_digit c =
-    record {
-      value =
-          no_digit c.args.limit c.args.bytes.now c.loop-byte.byte-index c.loop-byte.value (omega arith)
-          (sym c.if-not-is_ascii_digit.ensures.value) c.loop-byte.invariant.0;
-      within = tt;
-    }
+pub returns-then-not-is_ascii_digit-clause-value :
+    goal.returns-then-not-is_ascii_digit-clause-value
+returns-then-not-is_ascii_digit-clause-value c =
+    no_digit c.args.limit c.args.bytes.now c.loop-byte.byte-index c.loop-byte.value (omega arith)
+    (sym c.if-not-is_ascii_digit.ensures.value) c.loop-byte.invariant.0
 
-pub returns-then-more-from : goal.returns-then-more-from
-returns-then-more-from c =
-    record {
-      value =
-          too_large c.args.limit c.args.bytes.now c.loop-byte.byte-index c.loop-byte.value
-          (c.from.result * 10 + c.from-in-loop-byte.result) (omega arith) (omega arith) (omega arith) c.loop-byte.invariant.0;
-      within = tt;
-    }
+pub returns-then-more-from-clause-value : goal.returns-then-more-from-clause-value
+returns-then-more-from-clause-value c =
+    too_large c.args.limit c.args.bytes.now c.loop-byte.byte-index c.loop-byte.value
+    (c.from.result * 10 + c.from-in-loop-byte.result) (omega arith) (omega arith) (omega arith) c.loop-byte.invariant.0
 
 pub loop-byte-preserved : goal.loop-byte-preserved
 loop-byte-preserved c = (
@@ -29,11 +22,7 @@ loop-byte-preserved c = (
   omega arith,
 )
 
-pub returns : goal.returns
-returns c =
-    record {
-      value =
-          all_read c.args.limit c.args.bytes.now c.loop-byte.byte-index c.loop-byte.value
-          (grind (arith, nat_tests)) (omega arith) (omega arith) c.loop-byte.invariant.0;
-      within = omega arith;
-    }
+pub returns-clause-value : goal.returns-clause-value
+returns-clause-value c =
+    all_read c.args.limit c.args.bytes.now c.loop-byte.byte-index c.loop-byte.value
+    (grind (arith, nat_tests)) (omega arith) (omega arith) c.loop-byte.invariant.0

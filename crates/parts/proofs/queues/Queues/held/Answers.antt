@@ -3,5 +3,5 @@ use Rattle.std.proofs.Common.{arith}
 use Rattle.parts.proofs.Places.{held_few}
 use Rattle.parts.proofs.queues.Queues.held.Goals as goal
 
-pub returns : goal.returns
-returns c = record { sum = c.sum_of.ensures; bound = omega (arith, c.sum_of.ensures, held_few c.args.self.now (omega arith)) }
+pub returns-clause-bound : goal.returns-clause-bound
+returns-clause-bound c = omega (arith, c.sum_of.ensures, held_few c.args.self.now (omega arith))

@@ -9,6 +9,7 @@ use Rattle.scheduler.proofs.LineOrder.{LeftOf, Lowest, lowest, set_le, left_star
 use Rattle.scheduler.proofs.Sparing.{Sparing, spent_once, sparing_more}
 use Rattle.scheduler.proofs.Strobes.{strobe_start, strobe_pass, strobe_line, noted_few}
 use Rattle.scheduler.proofs.kernel.Core.strobe.Goals as goal
+use Rattle.monitor.specs.Meanings.{meaning}
 
 pub loop-rest-init : goal.loop-rest-init
 loop-rest-init g c = (
@@ -19,7 +20,7 @@ loop-rest-init g c = (
     left_start c.args.word,
     omega arith,
     omega arith,
-    strobe_start g.M.Monitor.lines g.M.Monitor.ready g.M.Monitor.ceiling g.M.Monitor.left c.args.mask.now.word c.args.word c.args.tag (core_of c.args.self.now),
+    strobe_start (meaning g.M.Monitor) c.args.mask.now.word c.args.word c.args.tag (core_of c.args.self.now),
   ),
   record { still = refl; so_far = inl (refl, refl) },
 )
@@ -34,8 +35,8 @@ overflow_sub-rest g c =
 pub loop-rest-preserved : goal.loop-rest-preserved
 loop-rest-preserved g c =
     subst (λ b. (c.loop-rest.rest - b < 2 ^ 16) × ((n : ℕ) × (n ≤ 16) × LeftOf n c.args.word (c.loop-rest.rest - b) × (c.noted-words.result.0 < 2 ^ n) × (c.noted-words.result.1 < 2 ^ n)
-    × StrobedBelow g.M.Monitor.lines g.M.Monitor.ready g.M.Monitor.ceiling g.M.Monitor.left n c.args.mask.now.word c.args.word c.args.tag (core_of c.args.self.now) c.noted-words.result (core_of c.raise-answer.new.self))
-    × Sparing g.M.Monitor.lines g.M.Monitor.ready g.M.Monitor.ceiling g.M.Monitor.left g.M.Monitor.spent c.args.self.now.monitor (core_of c.args.self.now).state.instant c.noted-words.result.1 (core_of c.raise-answer.new.self))
+    × StrobedBelow (meaning g.M.Monitor) n c.args.mask.now.word c.args.word c.args.tag (core_of c.args.self.now) c.noted-words.result (core_of c.raise-answer.new.self))
+    × Sparing (meaning g.M.Monitor) g.M.Monitor.spent c.args.self.now.monitor (core_of c.args.self.now).state.instant c.noted-words.result.1 (core_of c.raise-answer.new.self))
     (sym (one_shl (count_trailing_zeros 16 c.loop-rest.rest) 16 low.inside)) (
       omega (arith, c.loop-rest.invariant.0),
       (
@@ -44,15 +45,15 @@ loop-rest-preserved g c =
         left_next n c.args.word c.loop-rest.rest (count_trailing_zeros 16 c.loop-rest.rest) left low,
         subst (λ w. w.0 < 2 ^ suc (count_trailing_zeros 16 c.loop-rest.rest)) (sym same) few.0,
         subst (λ w. w.1 < 2 ^ suc (count_trailing_zeros 16 c.loop-rest.rest)) (sym same) few.1,
-        subst (λ w. StrobedBelow g.M.Monitor.lines g.M.Monitor.ready g.M.Monitor.ceiling g.M.Monitor.left (suc (count_trailing_zeros 16 c.loop-rest.rest)) c.args.mask.now.word c.args.word c.args.tag (core_of c.args.self.now) w (core_of c.raise-answer.new.self))
+        subst (λ w. StrobedBelow (meaning g.M.Monitor) (suc (count_trailing_zeros 16 c.loop-rest.rest)) c.args.mask.now.word c.args.word c.args.tag (core_of c.args.self.now) w (core_of c.raise-answer.new.self))
             (sym same)
-            (strobe_line g.M.Monitor.lines g.M.Monitor.ready g.M.Monitor.ceiling g.M.Monitor.left c.args.mask.now.word c.args.word c.args.tag (core_of c.args.self.now)
+            (strobe_line (meaning g.M.Monitor) c.args.mask.now.word c.args.word c.args.tag (core_of c.args.self.now)
             (count_trailing_zeros 16 c.loop-rest.rest) c.loop-rest.words (core_of c.loop-rest.self) (core_of c.raise-answer.new.self) c.raise-answer.result
             (word_set n c.args.word c.loop-rest.rest (count_trailing_zeros 16 c.loop-rest.rest) left low) at c.raise-answer.ensures.raised),
       ),
-      subst (λ w. Sparing g.M.Monitor.lines g.M.Monitor.ready g.M.Monitor.ceiling g.M.Monitor.left g.M.Monitor.spent c.args.self.now.monitor (core_of c.args.self.now).state.instant w.1 (core_of c.raise-answer.new.self))
+      subst (λ w. Sparing (meaning g.M.Monitor) g.M.Monitor.spent c.args.self.now.monitor (core_of c.args.self.now).state.instant w.1 (core_of c.raise-answer.new.self))
           (sym same)
-          (sparing_more g.M.Monitor.lines g.M.Monitor.ready g.M.Monitor.ceiling g.M.Monitor.left g.M.Monitor.spent c.args.self.now.monitor (core_of c.args.self.now).state.instant
+          (sparing_more (meaning g.M.Monitor) g.M.Monitor.spent c.args.self.now.monitor (core_of c.args.self.now).state.instant
           (core_of c.loop-rest.self) (core_of c.raise-answer.new.self) (count_trailing_zeros 16 c.loop-rest.rest) c.args.tag c.loop-rest.words c.loop-rest.invariant.2
           c.args.mask.now.word c.raise-answer.result c.raise-answer.ensures.raised c.raise-answer.ensures.once),
     )
@@ -76,7 +77,7 @@ loop-rest-preserved g c =
     few1 = omega (arith, pow_mono start, c.loop-rest.invariant.1.4)
 
     same : c.noted-words.result ≡ noting (count_trailing_zeros 16 c.loop-rest.rest) c.raise-answer.result c.loop-rest.words
-    same = c.noted-words.ensures low.inside few0 few1
+    same = c.noted-words.ensures few0 few1
 
     few : ((noting (count_trailing_zeros 16 c.loop-rest.rest) c.raise-answer.result c.loop-rest.words).0 < 2 ^ suc (count_trailing_zeros 16 c.loop-rest.rest))
         × ((noting (count_trailing_zeros 16 c.loop-rest.rest) c.raise-answer.result c.loop-rest.words).1 < 2 ^ suc (count_trailing_zeros 16 c.loop-rest.rest))
@@ -85,11 +86,11 @@ loop-rest-preserved g c =
     reach : n + (count_trailing_zeros 16 c.loop-rest.rest - n) ≡ count_trailing_zeros 16 c.loop-rest.rest
     reach = omega (arith, start)
 
-    at : StrobedBelow g.M.Monitor.lines g.M.Monitor.ready g.M.Monitor.ceiling g.M.Monitor.left (count_trailing_zeros 16 c.loop-rest.rest) c.args.mask.now.word c.args.word c.args.tag (core_of c.args.self.now) c.loop-rest.words (core_of c.loop-rest.self)
+    at : StrobedBelow (meaning g.M.Monitor) (count_trailing_zeros 16 c.loop-rest.rest) c.args.mask.now.word c.args.word c.args.tag (core_of c.args.self.now) c.loop-rest.words (core_of c.loop-rest.self)
     at =
-        subst (λ k. StrobedBelow g.M.Monitor.lines g.M.Monitor.ready g.M.Monitor.ceiling g.M.Monitor.left k c.args.mask.now.word c.args.word c.args.tag (core_of c.args.self.now) c.loop-rest.words (core_of c.loop-rest.self))
+        subst (λ k. StrobedBelow (meaning g.M.Monitor) k c.args.mask.now.word c.args.word c.args.tag (core_of c.args.self.now) c.loop-rest.words (core_of c.loop-rest.self))
         reach
-        (strobe_pass g.M.Monitor.lines g.M.Monitor.ready g.M.Monitor.ceiling g.M.Monitor.left c.args.mask.now.word c.args.word c.args.tag (core_of c.args.self.now)
+        (strobe_pass (meaning g.M.Monitor) c.args.mask.now.word c.args.word c.args.tag (core_of c.args.self.now)
         n (count_trailing_zeros 16 c.loop-rest.rest - n) c.loop-rest.words (core_of c.loop-rest.self)
         (λ j l m. passed n c.args.word c.loop-rest.rest (count_trailing_zeros 16 c.loop-rest.rest) left low j l (omega (arith, reach)))
         c.loop-rest.invariant.1.5)
@@ -97,13 +98,13 @@ loop-rest-preserved g c =
 pub returns : goal.returns
 returns g c = record {
   strobed =
-      subst (λ k. StrobedBelow g.M.Monitor.lines g.M.Monitor.ready g.M.Monitor.ceiling g.M.Monitor.left k c.args.mask.now.word c.args.word c.args.tag (core_of c.args.self.now) c.loop-rest.words (core_of c.loop-rest.self))
+      subst (λ k. StrobedBelow (meaning g.M.Monitor) k c.args.mask.now.word c.args.word c.args.tag (core_of c.args.self.now) c.loop-rest.words (core_of c.loop-rest.self))
       reach
-      (strobe_pass g.M.Monitor.lines g.M.Monitor.ready g.M.Monitor.ceiling g.M.Monitor.left c.args.mask.now.word c.args.word c.args.tag (core_of c.args.self.now)
+      (strobe_pass (meaning g.M.Monitor) c.args.mask.now.word c.args.word c.args.tag (core_of c.args.self.now)
       n (16 - n) c.loop-rest.words (core_of c.loop-rest.self)
       (λ j l m. left_none n c.args.word none j l)
       c.loop-rest.invariant.1.5);
-  once = spent_once g.M.Monitor.lines g.M.Monitor.ready g.M.Monitor.ceiling g.M.Monitor.left g.M.Monitor.spent c.args.self.now.monitor (core_of c.args.self.now).state.instant c.loop-rest.words.1 (core_of c.loop-rest.self) c.loop-rest.invariant.2;
+  once = spent_once (meaning g.M.Monitor) g.M.Monitor.spent c.args.self.now.monitor (core_of c.args.self.now).state.instant c.loop-rest.words.1 (core_of c.loop-rest.self) c.loop-rest.invariant.2;
 }
   where
     n : ℕ

@@ -11,11 +11,11 @@ use Rattle.scheduler.proofs.Bursts.{still_open}
 use Rattle.scheduler.proofs.tables.Tables.next_grant.Goals as goal
 
 pub returns : goal.returns
-returns c is known =
+returns c =
     let b = board_of c.args.self.now in
     let k = c.args.line in
-    let line = (board_ranges c.args.self.now.board).each_line k known in
-    let handler = ap (λ (l : Line). l.handler) is in
+    let line = (board_ranges c.args.self.now.board).each_line k c.requires.known in
+    let handler = ap (λ (l : Line). l.handler) c.requires.read in
     c.new.ensures
     ∙ (ap (λ (o : Overheads). closing (grant k (o.reschedule + o.switch) c.args.wired.handler o.switch)) c.overheads-overheads.ensures
     ∙ (ap (λ h. closing (grant k (b.overheads.reschedule + b.overheads.switch) h b.overheads.switch)) handler

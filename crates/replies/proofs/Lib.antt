@@ -1,2 +1,0 @@
--- Lemmas of the crate.
-mod Telling
