@@ -9,7 +9,8 @@ ghost use Rattle.board.specs.Held.{given};
 use crate::layout::Layout;
 use model::{Counted, Line, Overhead, Overheads, Refusal, Slot};
 
-// How many of each a board can have.
+// How many of each a board can have. The tables of queues and the monitors have these numbers too, each in a type of its own: one
+// constant would be cast at most of its places.
 const MOST_PARTITIONS: u8 = 8;
 
 pub const MOST_SLOTS: usize = 16;
@@ -84,7 +85,7 @@ impl Listed for Line {
     }
 }
 
-// The refusal of the first item that does not fit, if any.
+// The refusal of the first item that does not fit, if any. It is the place that is the error here, which no method of Option says.
 fn check_each<T: Listed>(partitions: u8, items: &[T]) -> Result<(), Refusal>
     requires { length items.now ≤ 16 }
     ensures { result ≡ answer (first_fault (T.fits partitions) T.named 0 items.now) }

@@ -36,10 +36,7 @@ fn slot_in(slots: &[Slot], place: u32) -> Slot
     let mut rest = place;
     for slot in slots {
         if rest < slot.ticks {
-            return Slot {
-                owner: slot.owner,
-                ticks: slot.ticks - rest,
-            };
+            return Slot::new(slot.owner, slot.ticks - rest);
         }
         rest -= slot.ticks;
     }

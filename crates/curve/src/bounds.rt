@@ -95,7 +95,7 @@ pub fn bound<M: Monitor, C: Curve>(
     Err(Refusal::NoBound(partition))
 }
 
-// A partition has one bound, or none, and never both.
+// A partition has one bound, or none, and never both: a theorem, on the contract of a function, so that it cannot stay unproved.
 pub fn bound_has_one_answer() -> u8
     ensures value { result ≡ 0 }
     ensures stands { BoundFoundOnce }

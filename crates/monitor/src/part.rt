@@ -12,7 +12,8 @@ pub enum Part {
     Second(u32),
 }
 
-// The part that has a line, where the first part has so many lines; neither has a line past line 15.
+// The part that has a line, where the first part has so many lines; neither has a line past line 15. The calls of a pair match on it,
+// each to ask a call of its own of the part: one function for them would take two closures, and be no plainer.
 pub fn part_of(first: u32, line: u32) -> Option<Part>
     ensures { result ≡ part_of first line }
 {

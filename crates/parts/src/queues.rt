@@ -6,7 +6,7 @@ use crate::queue::Queue;
 
 mod calls;
 
-// The most partitions that a board has.
+// The most partitions that a board has, as the length of a table.
 const PARTITIONS: usize = 8;
 
 #[derive(Clone, Copy, Debug)]

@@ -43,6 +43,7 @@ fn show_partitions(rt: &impl Print, board: &Board) -> Result<(), Trouble> {
 }
 
 fn show_lines(rt: &impl Print, board: &Board) -> Result<(), Trouble> {
+    // by their numbers: a number is what is asked and printed
     for line in 0..board.lines().len() as u32 {
         let cost = board.full_cost(line)?;
         println!(rt; "line {line}: full cost {cost} ticks")?;

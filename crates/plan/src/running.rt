@@ -8,6 +8,7 @@ use std::fmt;
 
 pub fn show_run(rt: &impl Print, board: Board) -> Result<(), Trouble> {
     let mut core = Core::new(board, monitors_k());
+    // in words here, by a letter in a sheet's reply
     let word = match core.raise(&Mask::new(), 0, 7)? {
         Answer::Permitted => "permitted",
         Answer::Queued => "queued",

@@ -19,6 +19,7 @@ impl fmt::Display for Told {
     }
 }
 
+// What this program prints beside the number and the place: the text of its `Display`, and of nothing else.
 fn meaning(refusal: &Refusal) -> &'static str {
     match refusal {
         Refusal::Count(_) => "a count of the board is out of range",

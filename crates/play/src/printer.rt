@@ -18,7 +18,7 @@ impl Printer {
         })
     }
 
-    // Writes what the buffer still holds; an earlier error comes first.
+    // Writes what the buffer still holds; an earlier error comes first. The match moves one of two things out.
     pub fn finish(self) -> io::Result<()> {
         let Printer { mut out, error } = self;
         match error {

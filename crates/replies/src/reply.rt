@@ -47,7 +47,7 @@ pub enum Reply {
     Refused { line: usize, fault: Fault },
 }
 
-// The reply to a raise that is not refused.
+// The reply to a raise that is not refused. An answer has no text of its own: a reply has a letter for it, a program words.
 impl From<Answer> for Reply {
     ghost from_gives = { λ a r. r ≡ answer_reply a };
 

@@ -70,7 +70,8 @@ impl<'a> Strip<'a, Span> {
     ghost use Rattle.model.specs.Tape.{grown};
     ghost use Rattle.scheduler.specs.Strips.{lengthens_last, ticks_of, PutThere};
 
-    // Whether a span is alike to the last in kind, who and slot owner.
+    // Whether a span is alike to the last in kind, who and slot owner. A test and an index: a part of a buffer that is lent through a
+    // `&` to the strip gets no proof.
     fn lengthens_last(&self, next: Span) -> bool
         ensures { result ≡ lengthens_last (take self.now.written self.now.places.now) next }
     {

@@ -17,7 +17,7 @@ pub struct Tape<P, M: Monitor> {
     mask: Mask,
 }
 
-// Six choices of places: for spans, and for finished events.
+// Six choices of places: for spans, and for finished events. They go by number, since the runs draw them.
 fn places(choice: u32) -> (usize, usize)
     ensures spans { result.0 ≤ 16 }
     ensures finished { result.1 ≤ 8 }
@@ -41,6 +41,7 @@ impl<P: Print, M: Monitor> Tape<P, M> {
         }
     }
 
+    // The letters of a tape: a reply's are another format, which has them too.
     pub fn raise(&mut self, line: u32, tag: u32) -> Result<(), Trouble> {
         match self.core.raise(&self.mask, line, tag) {
             Ok(Answer::Permitted) => println!(self.rt; "P")?,
@@ -80,7 +81,7 @@ impl<P: Print, M: Monitor> Tape<P, M> {
         self.first(finished, ran.finished)
     }
 
-    // The first of these, a line each.
+    // The first of these, a line each. The program's own: of a public one no contract could say what is printed.
     fn first<T: fmt::Display>(&self, items: &[T], count: usize) -> Result<(), Trouble> {
         for item in items.iter().take(count) {
             println!(self.rt; "{item}")?;

@@ -20,7 +20,7 @@ impl Board {
     {
         let layout = Layout {
             partitions: 1,
-            slots: &[Slot { owner: 0, ticks: 1 }],
+            slots: &[Slot::new(0, 1)],
             lines: &[],
             overheads: Overheads::default(),
         };
@@ -41,7 +41,7 @@ impl Board {
         })
     }
 
-    // Replaces the whole board, or refuses with the first check that fails and leaves it as it was.
+    // Replaces the whole board, or refuses with the first check that fails and leaves it as it was: one step over `of`.
     pub fn fill(&mut self, layout: Layout) -> Result<(), Refusal>
         ensures { Replaced held (fault (given layout.entry)) (given layout.entry) self.old result self.new }
     {

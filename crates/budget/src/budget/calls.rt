@@ -39,6 +39,7 @@ impl Budget {
     }
 
     // Replaces the permits per period and the period, and forgets the permits given.
+    // Every kind has a `set` over its own `of`: what they share is this one step.
     pub fn set(&mut self, permits: u32, period: u32) -> Result<(), Refusal>
         ensures { Replaced budget_state (budget_fault permits period) (budget_new permits period) self.old result self.new }
     {

@@ -103,6 +103,7 @@ const SLOTS: [(u8, u32, bool); 8] = [
 // Not one function with lines_have_ends: it takes the layout by a closure, and with one the proof of its loop stays open.
 #[test]
 fn slots_have_ends(rt: HostRuntime) {
+    // a place by its number: the refusal that is expected names it
     for place in 0..16 {
         for (owner, ticks, fits) in SLOTS {
             let slots = &among(Slot::new(1, 7), Slot::new(owner, ticks), place);
@@ -128,6 +129,7 @@ const LINES: [(u8, u16, u16, bool); 10] = [
 
 #[test]
 fn lines_have_ends(rt: HostRuntime) {
+    // a place by its number: the refusal that is expected names it
     for place in 0..16 {
         for (owner, top, handler, fits) in LINES {
             let lines = &among(Line::new(1, 2, 3), Line::new(owner, top, handler), place);

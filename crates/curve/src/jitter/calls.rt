@@ -31,6 +31,7 @@ impl Jitter {
     }
 
     // Replaces the period and the jitter.
+    // Every kind has a `set` over its own `of`: what they share is this one step.
     pub fn set(&mut self, period: u32, jitter: u32) -> Result<(), Refusal>
         ensures { Replaced jitter_of (jitter_fault (periodic period jitter)) (periodic period jitter) self.old result self.new }
     {

@@ -28,6 +28,7 @@ impl Sporadic {
     }
 
     // Replaces the distance.
+    // Every kind has a `set` over its own `of`: what they share is this one step.
     pub fn set(&mut self, distance: u32) -> Result<(), Refusal>
         ensures { Replaced sporadic_of (sporadic_fault (spaced distance)) (spaced distance) self.old result self.new }
     {

@@ -35,6 +35,7 @@ impl Distance {
     }
 
     // Replaces the distance and forgets the permits.
+    // Every kind has a `set` over its own `of`: what they share is this one step.
     pub fn set(&mut self, distance: u32) -> Result<(), Refusal>
         ensures { Replaced distance_state (distance_fault distance) (distance_new distance) self.old result self.new }
     {

@@ -7,7 +7,8 @@ use super::{Grant, first_step, less};
 use crate::phase::Phase;
 
 impl Grant {
-    // No grant is open: the line's number says nothing.
+    // No grant is open. The phase says so, and the line's number says nothing: an Option around both would be a second way of being
+    // closed.
     pub fn closed() -> Grant
         ensures { opened result ≡ None }
     {

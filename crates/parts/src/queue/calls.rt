@@ -22,7 +22,7 @@ impl Queue {
         self.len
     }
 
-    // Puts an event behind the others, if there is room.
+    // Puts an event behind the others, if there is room. Whether it was put has one reason, so the answer is no Result.
     pub fn push(&mut self, event: Event) -> bool
         ensures answer { result ≡ nat_lt (length (pending self.old)) 32 }
         ensures after { pending self.new ≡ (if result then pending self.old ++ event ∷ [] else pending self.old) }
@@ -37,7 +37,8 @@ impl Queue {
     }
 
     // Up to `ticks` ticks of the head event's handler. Where it ends, its event leaves; with no room
-    // for that event, the tick that would end it is not run.
+    // for that event, the tick that would end it is not run. The answer is a pair, as of the calls above: a type for both would be a
+    // generic one, since it is an Event that ends here and a Finished there.
     pub fn serve(&mut self, ticks: u32, room: bool) -> (u32, Option<Event>)
         ensures { record { ticks = result.0; ended = result.1; rest = pending self.new } ≡ serve ticks room (pending self.old) }
     {

@@ -34,7 +34,7 @@ impl Queues {
         sum_of(&self.all)
     }
 
-    // Puts an event behind the others of a partition's queue, if there is room.
+    // Puts an event behind the others of a partition's queue, if there is room; the answer is its queue's.
     pub fn push(&mut self, partition: u8, event: Event) -> bool
         ensures answer { result ≡ (nat_lt partition 8 && nat_lt (length (queue_of self.old partition)) 32) }
         ensures after { (p : ℕ) → queue_of self.new p ≡ (if result then put (queue_of self.old) partition (queue_of self.old partition ++ event ∷ []) p else queue_of self.old p) }
@@ -48,7 +48,7 @@ impl Queues {
         self.all[usize::from(partition)].push(event)
     }
 
-    // Up to `ticks` ticks of the handler of a partition's head event, as of its queue.
+    // Up to `ticks` ticks of the handler of a partition's head event, as of its queue; a pair, as there.
     pub fn serve(&mut self, partition: u8, ticks: u32, room: bool) -> (u32, Option<Event>)
         ensures outcome { record { ticks = result.0; ended = result.1; rest = queue_of self.new partition } ≡ serve ticks room (queue_of self.old partition) }
         ensures others { (p : ℕ) → queue_of self.new p ≡ put (queue_of self.old) partition (queue_of self.new partition) p }

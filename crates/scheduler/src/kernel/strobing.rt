@@ -11,7 +11,8 @@ use crate::mask::Mask;
 use model::{Answer, Refusal};
 use monitor::Monitor;
 
-// The words of lines taken and lines permitted, with a line noted by what raising it answered.
+// The words of lines taken and lines permitted, with a line noted by what raising it answered. A strobe is to answer two words, so
+// they are a pair throughout.
 fn noted(words: (u16, u16), line: u32, answer: Result<Answer, Refusal>) -> (u16, u16)
     requires { line < 16 }
     ensures { words.0 < 2 ^ line → words.1 < 2 ^ line → result ≡ noting line answer words }

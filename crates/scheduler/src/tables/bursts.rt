@@ -53,7 +53,8 @@ impl Tables {
             .map_or(0, |line| line.owner)
     }
 
-    // Ticks of the head event of a partition; where none waits, ticks with nothing served.
+    // Ticks of the head event of a partition; where none waits, ticks with nothing served. The answer is a pair, as of `work` and
+    // `burst`: the queue's with an Event that is told as a Finished.
     fn serve(&mut self, partition: u8, ticks: u32, room: bool) -> (u32, Option<Finished>)
         requires nothing { self.old.owed ≡ 0 }
         requires clock { self.old.instant + ticks ≤ 4000000000 }

@@ -98,7 +98,7 @@ impl<'a> Words<'a> {
         Ok(word)
     }
 
-    // A word too many is told at its place.
+    // A word too many is told at its place. It is the word that is the error here, which no method of Option says.
     fn no_more(&mut self) -> Result<(), Fault>
         ensures { result ≡ no_more (words_left self.old) }
     {

@@ -36,6 +36,7 @@ impl Trail {
     }
 
     // Replaces the distances and forgets the permits.
+    // Every kind has a `set` over its own `of`: what they share is this one step.
     pub fn set(&mut self, distances: &[u32]) -> Result<(), Refusal>
         ensures { Replaced trail_state (trail_fault distances.now) (trail_new distances.now) self.old result self.new }
     {

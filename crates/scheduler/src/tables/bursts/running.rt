@@ -22,7 +22,7 @@ impl Tables {
         let mut tape = Strip::new(spans);
         let mut done = Strip::new(finished);
         let mut run = 0;
-        // nothing is left of a slot before the first
+        // nothing is left of a slot before the first: a count of 0, for which a slot is asked anyway
         let mut slot = Slot::default();
         // stretch by stretch, and no index
         while run < ticks {
