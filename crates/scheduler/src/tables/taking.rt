@@ -1,5 +1,5 @@
 // Taking an event into the tables: why one cannot be taken, whether the monitor is to be asked, and what it changes.
-ghost use Rattle.std.specs.Prelude.{◌≡◌, ◌+◌, ◌<◌, ◌≤◌, not, length, if◌then◌else◌, Some, None, nat_lt};
+ghost use Rattle.std.specs.Prelude.{◌≡◌, ◌+◌, ◌<◌, ◌≤◌, not, length, if◌then◌else◌, Some};
 ghost use Rattle.model.specs.Calls.{answer};
 ghost use Rattle.model.specs.Core.{raise_fault, asks, raised_state, fresh_grant};
 ghost use Rattle.model.specs.Tick.{fresh};
