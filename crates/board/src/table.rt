@@ -1,6 +1,6 @@
 // The board's tables, what every board that exists keeps, and walks over a list of slots.
-ghost use Rattle.std.specs.Prelude.{◌≡◌, ◌^◌, ◌<◌, false, is_some, ◌==◌, filter, sum_by};
-ghost use Rattle.model.specs.Board.{layout, cycle_of, fault};
+ghost use Rattle.std.specs.Prelude.{◌≡◌, ◌^◌, ◌<◌, false, is_some, sum_by};
+ghost use Rattle.model.specs.Board.{layout, cycle_of, owned_in, fault};
 ghost use Rattle.board.specs.Slots.{slot_from};
 
 use crate::checks::{MOST_LINES, MOST_SLOTS};
@@ -45,12 +45,15 @@ fn slot_in(slots: &[Slot], place: u32) -> Slot
 
 // The lengths of one partition's slots together.
 fn owned_in(partition: u32, slots: &[Slot]) -> u32
-    requires { sum_by (λ s. s.ticks) (filter (λ s. s.owner == partition) slots.now) < 2 ^ 32 }
-    ensures { result ≡ sum_by (λ s. s.ticks) (filter (λ s. s.owner == partition) slots.now) }
+    requires { owned_in partition slots.now < 2 ^ 32 }
+    ensures { result ≡ owned_in partition slots.now }
 {
-    slots
-        .iter()
-        .filter(|slot| u32::from(slot.owner) == partition)
-        .map(|slot| slot.ticks)
-        .sum()
+    let mut sum = 0;
+    // a `for`: a chain of filter, map and sum takes half as long again
+    for slot in slots {
+        if u32::from(slot.owner) == partition {
+            sum += slot.ticks;
+        }
+    }
+    sum
 }

@@ -4,6 +4,7 @@
 mod bounds;
 mod curve;
 mod jitter;
+mod load;
 mod pair;
 mod sporadic;
 

@@ -14,27 +14,27 @@ fn main(rt: HostRuntime) -> ExitCode {
 
 fn run(rt: &impl Print) -> Result<(), Trouble<Refusal>> {
     println!(rt; "start")?;
-    let idle = idle()?;
-    println!(rt; "idle {idle}")?;
-    let loaded = loaded()?;
-    println!(rt; "loaded {loaded}")?;
+    let mut running = Running::new()?;
+    idle(&mut running)?;
+    println!(rt; "idle {running}")?;
+    running = Running::new()?;
+    loaded(&mut running)?;
+    println!(rt; "loaded {running}")?;
     Ok(())
 }
 
-fn idle() -> Result<Running, Refusal> {
-    let mut running = Running::new()?;
+fn idle(running: &mut Running) -> Result<(), Refusal> {
     for _ in 0..60_000u32 {
         running.advance(66_666)?;
     }
-    Ok(running)
+    Ok(())
 }
 
 // Before every 3000 ticks an event is raised, of each line in turn.
-fn loaded() -> Result<Running, Refusal> {
-    let mut running = Running::new()?;
+fn loaded(running: &mut Running) -> Result<(), Refusal> {
     for tag in 0..1_333_000u32 {
         running.raise(tag % 3, tag)?;
         running.advance(3000)?;
     }
-    Ok(running)
+    Ok(())
 }

@@ -1,10 +1,8 @@
 -- Division, and division rounded up, as the dividend grows.
-use Rattle.std.specs.Int.{div_ceil}
 use Rattle.std.proofs.Common.{◌≡◌, ℕ, ◌+◌, ◌-◌, ◌*◌, ◌/◌, ◌<◌, ◌≤◌, ⊎_elim, le_trans, div-mul-le_self, arith}
 use native.Mathlib.Nat.{div-eq_of_lt, add-div_right}
 use Rattle.std.proofs.lemmas.Nat.{le-div, div_below, mul-le}
 use Rattle.std.proofs.lemmas.Bool.{cases_lt}
-use Rattle.std.proofs.lemmas.Grind.{div_ceil_times}
 use Rattle.model.specs.Counting.{up}
 
 pub div_mono : (x y d : ℕ) → 1 ≤ d → x ≤ y → x / d ≤ y / d
@@ -38,11 +36,3 @@ up_step x d p some =
     let e : ((x - d) + (d - 1)) + d ≡ x + (d - 1) = omega arith in
     let same = rw e at one_more in omega arith)
     (cases_lt x d)
-
--- the library's division rounded up
-pub up_is : (x d : ℕ) → 1 ≤ d → div_ceil x d ≡ up x d
-up_is x d p =
-    let (enough, few) = div_ceil_times x d p in
-    let most : div_ceil x d ≤ up x d = le-div (div_ceil x d) (x + (d - 1)) d p (omega arith) in
-    let below : up x d < div_ceil x d + 1 = div_below (x + (d - 1)) d (div_ceil x d + 1) p (omega arith) in
-    omega arith

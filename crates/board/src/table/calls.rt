@@ -1,5 +1,5 @@
 // Filling a board, and the questions that it answers.
-ghost use Rattle.std.specs.Prelude.{◌≡◌, ◌%◌, ◌==◌, [], ◌∷◌, length, if◌then◌else◌, Some, Ok, Err, MatchResult, nat_lt};
+ghost use Rattle.std.specs.Prelude.{◌≡◌, ◌%◌, ◌==◌, false, [], ◌∷◌, length, if◌then◌else◌, is_some, Some, Ok, Err, MatchResult, nat_lt};
 ghost use Rattle.std.specs.List.{list_all};
 ghost use Rattle.model.specs.declared.refusal.Refusal.TheVariants.{NoSuch};
 ghost use Rattle.model.specs.Board.{layout, fault, cycle, owner_at, own, full_cost};
@@ -32,20 +32,30 @@ impl Board {
         ensures { MatchResult result (λ b. held b ≡ given layout.entry) (λ e. fault (given layout.entry) ≡ Some e) }
     {
         check(layout)?;
-        Ok(Board {
+        Ok(Board::checked(layout))
+    }
+
+    // The board of numbers that no check refuses.
+    fn checked(layout: Layout) -> Board
+        requires { is_some (fault (given layout)) ≡ false }
+        ensures { held result ≡ given layout.entry }
+    {
+        Board {
             partitions: layout.partitions,
             slots: ArrayVec::try_from(layout.slots).unwrap(),
             lines: ArrayVec::try_from(layout.lines).unwrap(),
             overheads: layout.overheads,
             cycle: sum_of(layout.slots),
-        })
+        }
     }
 
-    // Replaces the whole board, or refuses with the first check that fails and leaves it as it was: one step over `of`.
+    // Replaces the whole board, or refuses with the first check that fails and leaves it as it was. It checks before a board is made,
+    // as `of` does: over `of` a refusal would clear the place of one, and a board would be moved once more.
     pub fn fill(&mut self, layout: Layout) -> Result<(), Refusal>
         ensures { Replaced held (fault (given layout.entry)) (given layout.entry) self.old result self.new }
     {
-        *self = Board::of(layout)?;
+        check(layout)?;
+        *self = Board::checked(layout);
         Ok(())
     }
 

@@ -57,6 +57,8 @@ impl Curve for Jitter {
         if line != 0 || window == 0 {
             return 0;
         }
-        (cut(window) + u64::from(self.jitter)).div_ceil(u64::from(self.period))
+        // rounded up as in `lengths`, by a sum and one division
+        let period = u64::from(self.period);
+        (cut(window) + u64::from(self.jitter) + (period - 1)) / period
     }
 }

@@ -4,7 +4,7 @@ use Rattle.model.specs.Counting.{sum_to}
 use Rattle.model.specs.Limits.{largest}
 use Rattle.board.specs.Held.{held}
 use Rattle.curve.proofs.Demands.{share_in}
-use Rattle.curve.proofs.bounds.Load.demand.Given as goal
+use Rattle.curve.proofs.load.Load.demand.Given as goal
 
 -- the shares of the lines so far
 abbrev pub invariant-loop-k : goal.invariant-loop-k

@@ -1,7 +1,7 @@
 -- The costs are in range, so none of the products is large.
 use Rattle.std.proofs.Common.{arith}
 use Rattle.curve.proofs.Demands.{figures}
-use Rattle.curve.proofs.bounds.Load.share.Goals as goal
+use Rattle.curve.proofs.load.Load.share.Goals as goal
 
 pub times-requires : goal.times-requires
 times-requires g c =

@@ -3,7 +3,7 @@ use Rattle.std.proofs.Common.{refl, arith}
 use Rattle.model.specs.Counting.{sum_to}
 use Rattle.board.specs.Held.{held}
 use Rattle.curve.proofs.Demands.{share_in, sum_more}
-use Rattle.curve.proofs.bounds.Load.demand.Goals as goal
+use Rattle.curve.proofs.load.Load.demand.Goals as goal
 
 pub loop-k-init : goal.loop-k-init
 unfolding sum_to
