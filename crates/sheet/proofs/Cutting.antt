@@ -1,13 +1,13 @@
 -- A piece cut at a byte: its first part, and the parts of what is left.
 use Rattle.std.proofs.Common.{◌≡◌, ℕ, ◌+◌, ◌<◌, ◌≤◌, Bool, true, false, eqb, List, [], ◌∷◌, length, take, drop, Some, None, refl, ap, ⊎_elim, add-one, one-add, arith}
-use Rattle.std.specs.Prelude.{⊤, ◌==◌}
+use Rattle.std.specs.Prelude.{⊤, Option, unwrap_or, ◌==◌}
 use Rattle.std.specs.List.{position_or_len}
 use Rattle.std.specs.Iterator.{MakesProgress, item_count}
-use Rattle.std.proofs.lemmas.List.{length-take-le, length-drop, nil_from_length}
-use Rattle.sheet.specs.Cursor.{bytes_in}
+use Rattle.std.proofs.lemmas.List.{length-take-le, nil_from_length}
 use Rattle.std.proofs.lemmas.Bool.{cases_lt}
 use Rattle.std.proofs.lemmas.Bool.Decides.{nat_tests}
-use Rattle.sheet.specs.Pieces.{words_in, lines_in}
+use Rattle.sheet.specs.declared.piece.Piece.{Piece}
+use Rattle.sheet.specs.Pieces.{part_at, rest_at, words_in, lines_in}
 use Rattle.sheet.specs.Reading.{Part, onto, parts}
 use Rattle.sheet.specs.Scan.{found, first_part, rest_part}
 
@@ -80,11 +80,10 @@ pub lines_none : (p : Part) → length p.bytes ≡ 0 → lines_in (Some p) ≡ [
 unfolding parts
 lines_none p h = rw (nil_from_length p.bytes h) refl
 
--- fewer bytes are left behind a cut
-pub fewer_left : (stop : ℕ) (p : Part) → 0 < length p.bytes → bytes_in (rest_part stop p) < length p.bytes
-fewer_left stop p some =
-    ⊎_elim (λ h. rw (is_found stop p.bytes h, length-drop) (omega arith))
-    (λ h. rw (not_found stop p.bytes h) some) (cases_lt (before stop p.bytes) (length p.bytes))
+-- where nothing comes behind a cut, a piece with no bytes stands for it: no line more
+pub lines_or : (o : Option Piece) (p : Piece) → length p.bytes.now ≡ 0 → lines_in (Some (part_at (unwrap_or o p))) ≡ lines_in (rest_at o)
+lines_or None p h = lines_none (part_at p) h
+lines_or (Some q) p h = refl
 
 -- one item is taken of a list that is left
 pub one_taken : {S A B : Type 0} (rest : S → List B) (s t : S) (x : A) (b : B) → rest s ≡ b ∷ rest t →

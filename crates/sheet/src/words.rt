@@ -17,5 +17,5 @@ pub(crate) enum Word<'a> {
 #[derive(Drop)]
 pub(crate) struct Words<'a> {
     left: Option<Piece<'a>>,
-    end: usize,
+    pub(crate) end: usize,
 }

@@ -17,7 +17,7 @@ impl<'a> Sheet<'a> {
         ensures number { result.number ≡ 0 }
     {
         Sheet {
-            rest: Some(Piece { place: 0, bytes }),
+            rest: Piece { place: 0, bytes },
             number: 0,
         }
     }
@@ -46,13 +46,12 @@ impl<'a> Iterator for Sheet<'a> {
         ensures number { self.new.number ≡ (if is_some result then self.old.number + 1 else self.old.number) }
         ensures shorter { MatchOption result (bytes_left self.new ≡ bytes_left self.old) (λ _. bytes_left self.new < bytes_left self.old) }
     {
-        let left = self.rest?;
-        if left.bytes.is_empty() {
+        if self.rest.bytes.is_empty() {
             return None;
         }
-        let (line, rest) = left.cut(b'\n');
+        let (line, rest) = self.rest.cut(b'\n');
         *self = Sheet {
-            rest,
+            rest: rest.unwrap_or(line.end()),
             number: self.number + 1,
         };
         Some(read_line(line))

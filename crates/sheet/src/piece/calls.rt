@@ -1,11 +1,23 @@
-// Cutting a piece at a byte.
-ghost use Rattle.std.specs.Prelude.{◌≡◌};
+// Cutting a piece at a byte, and its end.
+ghost use Rattle.std.specs.Prelude.{◌≡◌, ◌+◌, [], length};
+ghost use Rattle.sheet.specs.Reading.{part};
 ghost use Rattle.sheet.specs.Scan.{found, first_part, rest_part};
 ghost use Rattle.sheet.specs.Pieces.{part_at, rest_at};
 
 use super::Piece;
 
 impl<'a> Piece<'a> {
+    // Nothing, behind the piece.
+    pub(crate) fn end(self) -> Piece<'a>
+        ensures { part_at result ≡ part (self.entry.place + length self.entry.bytes.now) [] }
+    {
+        let length = self.bytes.len();
+        Piece {
+            place: self.place + length,
+            bytes: &self.bytes[length..],
+        }
+    }
+
     // Where the first byte is that is `stop`.
     fn find(self, stop: u8) -> Option<usize>
         ensures { result ≡ found stop self.entry.bytes.now }

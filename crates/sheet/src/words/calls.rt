@@ -1,10 +1,9 @@
 // Taking the words of a line, and what a word says.
 ghost use Rattle.std.specs.Prelude.{◌≡◌, ◌+◌, ◌≤◌, length, IfOk, ⊤};
 ghost use Rattle.std.specs.Iterator.{MakesProgress, YieldsFirstBy, item_count};
-ghost use Rattle.sheet.specs.Firsts.{later_of};
 ghost use Rattle.sheet.specs.Pieces.{part_at};
 ghost use Rattle.sheet.specs.Reading.{limit16, limit32, number, placed, words_of};
-ghost use Rattle.sheet.specs.Words.{part_of, words_left, only_byte, no_more, required, exactly_one, exactly_two, seen_one, seen_two};
+ghost use Rattle.sheet.specs.Words.{part_of, words_left, only_byte};
 
 use super::{Word, Words};
 use crate::digits::decimal;
@@ -84,46 +83,6 @@ impl<'a> Words<'a> {
             left: Some(line),
             end: line.place + line.bytes.len(),
         }
-    }
-
-    // The next word, or the fault with its byte: in the form that the project asks for.
-    pub(crate) fn required(&mut self) -> Result<Word<'a>, Fault>
-        ensures word { seen_one result ≡ required self.old.end (words_left self.old) }
-        ensures left { words_left self.new ≡ later_of (words_left self.old) }
-        ensures end { self.new.end ≡ self.old.end }
-    {
-        let Some(word) = self.next() else {
-            return Err(Fault::Form(self.end));
-        };
-        Ok(word)
-    }
-
-    // A word too many is told at its place. It is the word that is the error here, which no method of Option says.
-    fn no_more(&mut self) -> Result<(), Fault>
-        ensures { result ≡ no_more (words_left self.old) }
-    {
-        match self.next() {
-            Some(extra) => Err(Fault::Form(extra.place())),
-            None => Ok(()),
-        }
-    }
-
-    // The one word that is left.
-    pub(crate) fn one(&mut self) -> Result<Word<'a>, Fault>
-        ensures { seen_one result ≡ exactly_one self.old.end (words_left self.old) }
-    {
-        let word = self.required()?;
-        self.no_more()?;
-        Ok(word)
-    }
-
-    // The two words that are left. One function for any count would answer an array of words, and an array that holds
-    // references and has a const parameter for its length gets no proof.
-    pub(crate) fn two(&mut self) -> Result<(Word<'a>, Word<'a>), Fault>
-        ensures { seen_two result ≡ exactly_two self.old.end (words_left self.old) }
-    {
-        let first = self.required()?;
-        Ok((first, self.one()?))
     }
 }
 

@@ -1,18 +1,16 @@
--- Nothing is left, or no byte; or the first line, and those behind it.
-use Rattle.std.proofs.Common.{◌≡◌, ◌<◌, [], ◌∷◌, length, map, rules, Some, Option, sym, ap, ◌∙◌, arith}
+-- No byte is left; or the first line, and those behind it.
+use Rattle.std.proofs.Common.{◌≡◌, ◌<◌, [], length, map, Some, sym, ap, ◌∙◌, arith}
 use Rattle.std.proofs.lemmas.Bool.Decides.{nat_tests}
 use Rattle.sheet.specs.Cursor.{left_of}
 use Rattle.sheet.specs.Firsts.{first_of, later_of}
 use Rattle.sheet.specs.Pieces.{part_at, lines_in}
 use Rattle.sheet.specs.Reading.{Part, read_line}
-use Rattle.sheet.specs.Scan.{first_part}
-use Rattle.sheet.proofs.Cutting.{lines_cut, lines_none, fewer_left, one_taken}
+use Rattle.sheet.proofs.Cutting.{lines_cut, lines_none, lines_or, one_taken}
 use Rattle.sheet.proofs.cursor.calls.SheetIterator.next.Goals as goal
 
 pub returns-then-is_empty-clause-steps : goal.returns-then-is_empty-clause-steps
 returns-then-is_empty-clause-steps c =
-    let left : c.args.self.now.rest ≡ Some c.in_ok-left.left = search rules in
-    let none : left_of c.args.self.now ≡ [] = rw left (ap (map read_line) (lines_none (part_at c.in_ok-left.left) (grind (arith, nat_tests)))) in
+    let none : left_of c.args.self.now ≡ [] = ap (map read_line) (lines_none (part_at c.args.self.now.rest) (grind (arith, nat_tests))) in
     (none, none)
 
 pub returns-then-is_empty-clause-line : goal.returns-then-is_empty-clause-line
@@ -23,12 +21,11 @@ returns-then-is_empty-clause-left c = let none = (returns-then-is_empty-clause-s
 
 pub returns-clause-steps : goal.returns-clause-steps
 returns-clause-steps c =
-    let left : c.args.self.now.rest ≡ Some c.in_ok-left.left = search rules in
-    let some : 0 < length c.in_ok-left.left.bytes.now = grind (arith, nat_tests) in
+    let some : 0 < length c.args.self.now.rest.bytes.now = grind (arith, nat_tests) in
     let line = c.read_line.ensures ∙ ap read_line c.cut.ensures.first in
-    rw (left, line)
-    (ap (map read_line) (lines_cut (part_at c.in_ok-left.left) some)
-    ∙ ap (λ (p : Option Part). read_line (first_part 10 (part_at c.in_ok-left.left)) ∷ map read_line (lines_in p)) (sym c.cut.ensures.rest))
+    let behind = lines_or c.cut.result.1 c.end.result (ap (λ (p : Part). length p.bytes) c.end.ensures) in
+    let rest = ap (λ p. lines_in (Some (part_at p))) c.unwrap_or.ensures ∙ behind ∙ ap lines_in c.cut.ensures.rest in
+    rw (line, rest) (ap (map read_line) (lines_cut (part_at c.args.self.now.rest) some))
 
 pub returns-clause-goes : goal.returns-clause-goes
 returns-clause-goes c = one_taken left_of c.args.self.now _ _ _ (returns-clause-steps c)
@@ -38,9 +35,3 @@ returns-clause-line c = sym (ap first_of (returns-clause-steps c))
 
 pub returns-clause-left : goal.returns-clause-left
 returns-clause-left c = sym (ap later_of (returns-clause-steps c))
-
-pub returns-clause-shorter : goal.returns-clause-shorter
-returns-clause-shorter c =
-    let left : c.args.self.now.rest ≡ Some c.in_ok-left.left = search rules in
-    let some : 0 < length c.in_ok-left.left.bytes.now = grind (arith, nat_tests) in
-    rw (left, c.cut.ensures.rest) (fewer_left 10 (part_at c.in_ok-left.left) some)
