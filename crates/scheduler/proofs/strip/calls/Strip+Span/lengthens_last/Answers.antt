@@ -10,7 +10,7 @@ use Rattle.model.specs.Seen.{row_of}
 use Rattle.model.specs.Tape.{alike, kind_place}
 use Rattle.scheduler.specs.Strips.{no_span}
 use Rattle.scheduler.proofs.Fronts.{last_alike}
-use Rattle.scheduler.proofs.strip.Strip+Span.lengthens_last.Goals as goal
+use Rattle.scheduler.proofs.strip.calls.Strip+Span.lengthens_last.Goals as goal
 
 -- equal kinds have one place
 same_kind : (a b : Kind) → sameb the_type a b ≡ eqb (kind_place a) (kind_place b)

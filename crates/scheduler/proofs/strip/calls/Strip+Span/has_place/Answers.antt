@@ -4,7 +4,7 @@ use Rattle.std.proofs.lemmas.List.{length-take-le}
 use Rattle.std.proofs.lemmas.Bool.Decides.{nat_tests}
 use Rattle.scheduler.specs.Strips.{lengthens_last}
 use Rattle.scheduler.proofs.Fronts.{length_grown}
-use Rattle.scheduler.proofs.strip.Strip+Span.has_place.Goals as goal
+use Rattle.scheduler.proofs.strip.calls.Strip+Span.has_place.Goals as goal
 
 some_left : (g n m w : ℕ) (t : Bool) → g ≡ cond t n (suc n) → n ≡ w → w < m → ltb w m ≡ leb g m
 some_left g n m w true e f l = grind (arith, nat_tests)

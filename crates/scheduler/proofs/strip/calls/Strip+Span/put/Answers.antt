@@ -1,7 +1,7 @@
 -- It lengthens the last span, or takes the next place.
 use Rattle.std.proofs.Common.{sym, refl, arith}
 use Rattle.scheduler.proofs.Fronts.{put_appends, put_lengthens, some_last, last_few, next_place}
-use Rattle.scheduler.proofs.strip.Strip+Span.put.Goals as goal
+use Rattle.scheduler.proofs.strip.calls.Strip+Span.put.Goals as goal
 
 pub overflow_add-self : goal.overflow_add-self
 overflow_add-self c =
